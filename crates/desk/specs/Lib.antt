@@ -1,0 +1,3 @@
+-- The definitions that the exported functions' contracts cite. Assumes nothing.
+pub mod Fields
+pub mod Claims

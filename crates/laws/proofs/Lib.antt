@@ -1,0 +1,3 @@
+-- Assumes nothing.
+pub mod Refusal
+pub mod Claims

@@ -1,0 +1,116 @@
+-- Laws of the lowest refusal. The list is walked once (`judge`): either no number applies and the answer is 0, or the answer applies
+-- and no lower number does. `Says` is that in both directions. Assumes nothing.
+use Prim.Native.Nat.{ℕ, _≤_, _<_}
+use mathlib.Core.Path.{_≡_, refl, sym, ap, subst, _∙_}
+use mathlib.Core.Logic.{_⊎_, inl, inr}
+use mathlib.Core.Bool.{Bool, true, false, _&&_, true≢false}
+use mathlib.Core.List.{List, [], _∷_}
+use native.Mathlib.Nat.{le-trans, le-antisymm, le-of-eq}
+use native.Mathlib.Omega.{arith}
+use lib.Dec.{T, leb, leb→le, lit<}
+use borrow.Author.Tests.{ne-eqb}
+use Rattle.laws.specs.Refusal.{lowest, whenDone, written, rising, Applies, Lowest, Says}
+
+-- ---- both halves of a conjunction that holds
+left : (a b : Bool) → T (a && b) → T a
+left true b t = tt
+left false b t = t
+
+right : (a b : Bool) → T (a && b) → T b
+right true b t = t
+right false b t = absurd t
+
+-- ---- numbers that rise: what applies is no lower than the first
+module _ (n m : ℕ) (tests : List (ℕ × Bool)) (r : T (leb n m && rising m tests)) where
+  step-up : n ≤ m
+  step-up = leb→le n m (left (leb n m) (rising m tests) r)
+
+  rest-rises : T (rising m tests)
+  rest-rises = right (leb n m) (rising m tests) r
+
+not-below : (n : ℕ) (tests : List (ℕ × Bool)) → T (rising n tests) → (k : ℕ) → Applies k tests → n ≤ k
+unfolding rising Applies
+not-below n [] r k f = absurd f
+not-below n ((m, passes) ∷ tests) r k (inl f) = le-trans (step-up n m tests r) (le-of-eq (f .0))
+not-below n ((m, passes) ∷ tests) r k (inr f) = le-trans (step-up n m tests r) (not-below m tests (rest-rises n m tests r) k f)
+
+first-not-below : (m : ℕ) (tests : List (ℕ × Bool)) → T (rising m tests) → (k : ℕ) → Applies k ((m, false) ∷ tests) → m ≤ k
+unfolding Applies
+first-not-below m tests r k (inl f) = le-of-eq (f .0)
+first-not-below m tests r k (inr f) = not-below m tests r k f
+
+-- ---- one test more in front
+-- a test that passes adds nothing
+behind : (m k : ℕ) (tests : List (ℕ × Bool)) → Applies k ((m, true) ∷ tests) → Applies k tests
+unfolding Applies
+behind m k tests (inl f) = absurd (true≢false (f .1))
+behind m k tests (inr f) = f
+
+in-front : (m k : ℕ) (tests : List (ℕ × Bool)) → Applies k tests → Applies k ((m, true) ∷ tests)
+unfolding Applies
+in-front m k tests f = inr f
+
+-- a test that fails applies
+itself : (m : ℕ) (tests : List (ℕ × Bool)) → Applies m ((m, false) ∷ tests)
+unfolding Applies
+itself m tests = inl (refl, refl)
+
+none-of-nothing : (k : ℕ) → Applies k [] → ⊥
+unfolding Applies
+none-of-nothing k f = f
+
+-- ---- the walk
+abbrev Judged : List (ℕ × Bool) → ℕ → Type 0
+Judged tests l = ((l ≡ 0) × ((k : ℕ) → Applies k tests → ⊥)) ⊎ ((0 < l) × Lowest l tests)
+
+judge : (n : ℕ) (tests : List (ℕ × Bool)) → 0 < n → T (rising n tests) → Judged tests (lowest tests)
+unfolding lowest rising
+judge n [] N r = inl (refl, none-of-nothing)
+judge n ((m, true) ∷ tests) N r = passed (judge m tests (omega (arith, step-up n m tests r)) (rest-rises n m tests r))
+  where
+    passed : Judged tests (lowest tests) → Judged ((m, true) ∷ tests) (lowest tests)
+    passed (inl j) = inl (j .0, λ k f. j .1 k (behind m k tests f))
+    passed (inr j) =
+        inr (j .0, record { applies = in-front m (lowest tests) tests (j .1 .applies); no-lower = λ k f. j .1 .no-lower k (behind m k tests f) })
+judge n ((m, false) ∷ tests) N r =
+    inr (omega (arith, step-up n m tests r), record { applies = itself m tests; no-lower = first-not-below m tests (rest-rises n m tests r) })
+
+-- ---- both directions
+one-lowest : (m n : ℕ) (tests : List (ℕ × Bool)) → Lowest m tests → Lowest n tests → m ≡ n
+one-lowest m n tests p q = le-antisymm (p .no-lower n (q .applies)) (q .no-lower m (p .applies))
+
+not-both : (n : ℕ) → n ≡ 0 → 0 < n → ⊥
+not-both n e h = omega arith
+
+says : (tests : List (ℕ × Bool)) → Judged tests (lowest tests) → Says tests
+says tests (inl j) = record {
+  done = (λ _. j .1, λ _. j .0);
+  refused = λ n N. (λ e. absurd (not-both n (sym e ∙ j .0) N), λ l. absurd (j .1 n (l .applies)));
+}
+says tests (inr j) = record {
+  done = (λ e. absurd (not-both (lowest tests) e (j .0)), λ none. absurd (none (lowest tests) (j .1 .applies)));
+  refused = λ n N. (λ e. subst (λ (m : ℕ). Lowest m tests) e (j .1), λ l. one-lowest (lowest tests) n tests (j .1) l);
+}
+
+pub lowest-of-rising : (tests : List (ℕ × Bool)) → T (rising 1 tests) → Says tests
+lowest-of-rising tests r = says tests (judge 1 tests (lit< tt) r)
+
+-- a call that gets 0 passed its first test, and all tests behind it
+pub first-passes : (n : ℕ) (passes : Bool) (tests : List (ℕ × Bool)) → 0 < n → lowest ((n, passes) ∷ tests) ≡ 0 → passes ≡ true
+unfolding lowest
+first-passes n true tests N e = refl
+first-passes n false tests N e = absurd (not-both n e N)
+
+pub rest-passes : (n : ℕ) (passes : Bool) (tests : List (ℕ × Bool)) → 0 < n → lowest ((n, passes) ∷ tests) ≡ 0 → lowest tests ≡ 0
+unfolding lowest
+rest-passes n true tests N e = e
+rest-passes n false tests N e = absurd (not-both n e N)
+
+-- ---- what callers end with: an answer whose number n is the definition's m
+-- at 0 it has the value
+pub gives : {A : Type 0} {n m : ℕ} {x y : A} → n ≡ m → n ≡ 0 → x ≡ y → (0 ≡ m) × (x ∷ [] ≡ whenDone m y)
+gives {A} {n} {m} {x} {y} e z p = (sym z ∙ e, subst (λ (k : ℕ). x ∷ [] ≡ whenDone k y) (sym z ∙ e) (ap (λ (a : A). a ∷ []) p))
+
+-- at another number it has none
+pub refuses : {A : Type 0} {n m : ℕ} (y : A) → n ≡ m → (n ≡ 0 → ⊥) → (n ≡ m) × ([] ≡ whenDone m y)
+refuses {A} {n} {m} y e z = (e, subst (λ (k : ℕ). [] ≡ whenDone k y) e (simp (ne-eqb n 0 z)))

@@ -1,0 +1,4 @@
+-- The definitions that several crates cite. Assumes nothing.
+pub mod Refusal
+pub mod Sums
+pub mod Claims

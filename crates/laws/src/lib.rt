@@ -1,0 +1,1 @@
+// Definitions and laws that several crates cite: specs/ and proofs/. No function stands here.
