@@ -1,0 +1,115 @@
+//! Lent buffers with guards: what a call wrote and what it left alone are both
+//! compared, before, inside and after the part that it was lent.
+
+use std::fmt;
+use std::ops::Range;
+
+use crate::case::Difference;
+use crate::random::Random;
+
+/// A value that is made of noise and compared by its bits.
+pub trait Plain: Copy + fmt::Debug {
+    fn of_noise(bits: u64) -> Self;
+    fn bits(self) -> u64;
+}
+
+macro_rules! plain_integer {
+    ($($kind:ty)*) => {$(
+        impl Plain for $kind {
+            fn of_noise(bits: u64) -> Self {
+                bits as Self
+            }
+            fn bits(self) -> u64 {
+                self.into()
+            }
+        }
+    )*};
+}
+
+plain_integer!(u8 u16 u32 u64);
+
+impl Plain for f32 {
+    fn of_noise(bits: u64) -> Self {
+        Self::from_bits(bits as u32)
+    }
+    fn bits(self) -> u64 {
+        self.to_bits().into()
+    }
+}
+
+/// Values on either side of the lent part.
+const GUARD: usize = 64;
+
+/// A buffer of which the middle is lent.
+#[derive(Debug, Clone)]
+pub struct Guarded<T> {
+    all: Vec<T>,
+    /// All as it was before the call.
+    was: Vec<T>,
+    lent: Range<usize>,
+}
+
+impl<T: Plain> Guarded<T> {
+    /// Lends `count` values of noise; more than the call needs, to see that the
+    /// rest stays.
+    pub fn noise(seed: u64, count: usize) -> Self {
+        let mut random = Random::new(seed);
+        let all: Vec<T> = (0..count + 2 * GUARD)
+            .map(|_| T::of_noise(random.next()))
+            .collect();
+        Self {
+            was: all.clone(),
+            all,
+            lent: GUARD..GUARD + count,
+        }
+    }
+
+    /// Lends a copy of `contents`, as for a store that a call reads too.
+    pub fn holding(seed: u64, contents: &[T]) -> Self {
+        let mut guarded = Self::noise(seed, contents.len());
+        guarded.lend().copy_from_slice(contents);
+        guarded.was = guarded.all.clone();
+        guarded
+    }
+
+    pub fn lend(&mut self) -> &mut [T] {
+        &mut self.all[self.lent.clone()]
+    }
+
+    /// The lent part begins with `expected`, and all else is as it was. After a
+    /// refusal `expected` is empty.
+    pub fn written(&self, expected: &[T]) -> Result<(), Difference> {
+        let start = self.lent.start;
+        if expected.len() > self.lent.len() {
+            return Err(Difference::new(
+                "the size of the output",
+                format_args!("{} lent", self.lent.len()),
+                format_args!("{} written", expected.len()),
+            ));
+        }
+        for (at, (now, was)) in self.all.iter().zip(&self.was).enumerate() {
+            let written = at.checked_sub(start).and_then(|at| expected.get(at));
+            let wanted = written.unwrap_or(was);
+            if now.bits() == wanted.bits() {
+                continue;
+            }
+            let place = at as i64 - start as i64;
+            let what = if written.is_some() {
+                format!("value {place} of the output")
+            } else if self.lent.contains(&at) {
+                format!("value {place} of the lent output, which was not to be written")
+            } else {
+                format!(
+                    "value {place} of the lent {}, outside of it",
+                    self.lent.len()
+                )
+            };
+            return Err(Difference::new(what, shown(*now), shown(*wanted)));
+        }
+        Ok(())
+    }
+}
+
+fn shown<T: Plain>(value: T) -> String {
+    format!("{value:?} (bits {:#x})", value.bits())
+}

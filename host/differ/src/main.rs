@@ -1,0 +1,58 @@
+//! Does the differential runs: all of them, or those that are named.
+//!
+//!     differ                  every run
+//!     differ first_field      this one
+//!     differ --list           their names
+//!
+//! Prints the seed, then a line for each run. Ends with 1 at the first
+//! difference, after the smallest input that shows it and both answers; with 2
+//! where it is called wrongly.
+
+use std::env;
+use std::process::ExitCode;
+
+use differ::random::{self, Random, SEED_VARIABLE};
+use differ::runs::{RUNS, Run};
+
+fn main() -> ExitCode {
+    let names: Vec<String> = env::args().skip(1).collect();
+    if names == ["--list"] {
+        for run in RUNS {
+            println!("{}: {}", run.name, run.about);
+        }
+        return ExitCode::SUCCESS;
+    }
+    let (seed, runs) = match random::seed().and_then(|seed| Ok((seed, chosen(&names)?))) {
+        Ok(chosen) => chosen,
+        Err(complaint) => {
+            eprintln!("differ: {complaint}");
+            return ExitCode::from(2);
+        }
+    };
+    println!("seed {seed} (another by {SEED_VARIABLE})");
+    for run in runs {
+        match (run.run)(&mut Random::for_run(seed, run.name)) {
+            Ok(tally) => println!("{tally}"),
+            Err(failure) => {
+                println!("{failure}");
+                return ExitCode::from(1);
+            }
+        }
+    }
+    ExitCode::SUCCESS
+}
+
+/// The runs of these names, in the order of the list; all of them for no name.
+fn chosen(names: &[String]) -> Result<Vec<&'static Run>, String> {
+    for name in names {
+        if RUNS.iter().all(|run| run.name != name) {
+            let known: Vec<_> = RUNS.iter().map(|run| run.name).collect();
+            return Err(format!(
+                "there is no run `{name}`; expected --list, or names of: {}",
+                known.join(", ")
+            ));
+        }
+    }
+    let wanted = |run: &&Run| names.is_empty() || names.iter().any(|name| name == run.name);
+    Ok(RUNS.iter().filter(wanted).collect())
+}

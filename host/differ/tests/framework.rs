@@ -1,0 +1,248 @@
+//! The frame of the runs is itself able to fail: wrong code is caught and made
+//! small, a write too far is caught, and a run that compares nothing fails.
+
+use std::hint::black_box;
+
+use differ::case::{Case, Difference, Failure, Least, Tally, same, smaller_numbers};
+use differ::lent::Guarded;
+use differ::plane::{Layout, cut, flipped, plane};
+use differ::random::{Random, read_seed};
+
+/// Both sides double a number below 1000 and refuse another with 3; one of
+/// them goes wrong from 300 on.
+#[derive(Debug, Clone)]
+struct Doubled {
+    number: u64,
+    wrong_from: u64,
+}
+
+impl Case for Doubled {
+    fn compare(&self) -> Result<u8, Difference> {
+        if self.number >= 1000 {
+            return Ok(3);
+        }
+        let wrong = u64::from(self.number >= self.wrong_from);
+        same("the double", self.number * 2 + wrong, self.number * 2)?;
+        Ok(0)
+    }
+
+    fn smaller(&self) -> Vec<Self> {
+        let with = |number| Self {
+            number,
+            ..self.clone()
+        };
+        smaller_numbers(self.number).into_iter().map(with).collect()
+    }
+}
+
+fn doubled(wrong_from: u64, numbers: std::ops::Range<u64>, least: Least) -> Result<Tally, Failure> {
+    let cases = numbers.map(|number| Doubled { number, wrong_from });
+    Tally::of("doubled", least, cases)
+}
+
+const LEAST: Least = Least {
+    accepted: 1,
+    refused: 1,
+};
+
+#[test]
+fn right_code_passes_and_is_counted() {
+    let tally = doubled(u64::MAX, 990..1003, LEAST).expect("no difference");
+    assert_eq!(
+        (tally.compared(), tally.accepted(), tally.refused()),
+        (13, 10, 3)
+    );
+    assert_eq!(tally.gave(3), 3);
+    assert_eq!(
+        tally.to_string(),
+        "doubled: 13 compared, 10 accepted, 3 refused (3 with 3), none different"
+    );
+}
+
+#[test]
+fn wrong_code_is_caught_and_made_small() {
+    let failure = doubled(300, 900..1003, LEAST).expect_err("900 is doubled wrongly");
+    let Failure::Differs {
+        case, difference, ..
+    } = &failure
+    else {
+        panic!("expected a difference, found {failure}");
+    };
+    assert!(case.contains("number: 300,"), "{case}");
+    assert_eq!(*difference, Difference::new("the double", 601, 600));
+    let text = failure.to_string();
+    assert!(text.contains("smallest input: Doubled"), "{text}");
+    assert!(text.contains("Rattle: 601"), "{text}");
+    assert!(text.contains("Rust:   600"), "{text}");
+}
+
+#[test]
+fn a_run_of_refusals_alone_fails() {
+    let failure = doubled(0, 1000..2000, LEAST).expect_err("nothing was accepted");
+    assert!(matches!(failure, Failure::TooFew { .. }), "{failure}");
+    assert!(failure.to_string().contains("expected at least 1 accepted"));
+    let failure = doubled(u64::MAX, 0..9, LEAST).expect_err("nothing was refused");
+    assert!(matches!(failure, Failure::TooFew { .. }), "{failure}");
+    let failure = doubled(u64::MAX, 0..0, LEAST).expect_err("nothing was compared");
+    assert!(matches!(failure, Failure::TooFew { .. }), "{failure}");
+}
+
+/// The oracle panics on what it cannot take.
+#[derive(Debug, Clone)]
+struct Panicking(u64);
+
+impl Case for Panicking {
+    fn compare(&self) -> Result<u8, Difference> {
+        assert!(self.0 < 40, "{} is too large", self.0);
+        Ok(0)
+    }
+
+    fn smaller(&self) -> Vec<Self> {
+        smaller_numbers(self.0).into_iter().map(Self).collect()
+    }
+}
+
+#[test]
+fn a_panic_is_a_difference_with_its_input() {
+    let failure = Tally::of("panicking", LEAST, [Panicking(99)]).expect_err("99 is too large");
+    let text = failure.to_string();
+    assert!(text.contains("smallest input: Panicking(40)"), "{text}");
+    assert!(text.contains("Rust:   40 is too large"), "{text}");
+}
+
+/// Shrinking ends, whatever a case calls smaller.
+#[derive(Debug, Clone)]
+struct Circular;
+
+impl Case for Circular {
+    fn compare(&self) -> Result<u8, Difference> {
+        same("the answer", 1, 2)?;
+        Ok(0)
+    }
+
+    fn smaller(&self) -> Vec<Self> {
+        vec![Self]
+    }
+}
+
+#[test]
+fn shrinking_ends() {
+    assert!(Tally::of("circular", LEAST, [Circular]).is_err());
+}
+
+/// Copies, and writes `too_far` values past the end of what it copies.
+unsafe extern "C" fn copy_too_far(out: *mut u8, from: *const u8, count: usize, too_far: usize) {
+    for at in 0..count + too_far {
+        unsafe { *out.add(at) = if at < count { *from.add(at) } else { 0 } };
+    }
+}
+
+#[test]
+fn a_write_past_the_end_is_caught() {
+    let from = Random::new(2).bytes(10);
+    // (lent, written past the ten, what the difference says)
+    let trials = [
+        (10, 0, None),
+        (13, 0, None),
+        (13, 1, Some("value 10 of the lent output, which was not")),
+        (10, 1, Some("value 10 of the lent 10, outside of it")),
+    ];
+    for (lent, too_far, says) in trials {
+        let mut out = Guarded::<u8>::noise(1, lent);
+        let pointer = black_box(out.lend().as_mut_ptr());
+        // SAFETY: the guards of the buffer are longer than `too_far`.
+        unsafe { copy_too_far(pointer, from.as_ptr(), from.len(), too_far) };
+        let found = black_box(&out).written(&from);
+        assert_eq!(found.is_err(), says.is_some(), "{found:?}");
+        if let (Err(difference), Some(says)) = (found, says) {
+            assert!(difference.what.contains(says), "{difference:?}");
+        }
+    }
+}
+
+#[test]
+fn a_write_before_the_start_or_after_a_refusal_is_caught() {
+    let mut out = Guarded::<u64>::noise(1, 4);
+    out.lend()[0] ^= 1;
+    let touched = out.written(&[]).expect_err("value 0 was written");
+    assert!(touched.what.contains("value 0 of the lent output"));
+
+    let mut out = Guarded::<u16>::holding(1, &[5, 6]);
+    assert_eq!(out.written(&[]), Ok(()));
+    assert_eq!(out.written(&[5]), Ok(()));
+    out.lend()[1] = 7;
+    assert_eq!(out.written(&[5, 7]), Ok(()));
+    assert!(out.written(&[5]).is_err());
+    assert!(out.written(&[5, 7, 8]).is_err());
+    let before = black_box(out.lend().as_mut_ptr());
+    // SAFETY: the guard before the lent part.
+    unsafe { *before.sub(1) ^= 1 };
+    let touched = black_box(&out).written(&[5, 7]).expect_err("a guard");
+    assert!(touched.what.contains("value -1"), "{touched:?}");
+}
+
+#[test]
+fn floats_are_compared_by_their_bits() {
+    let out = Guarded::<f32>::holding(1, &[0.0, f32::NAN]);
+    assert_eq!(out.written(&[0.0, f32::NAN]), Ok(()));
+    assert!(out.written(&[-0.0, f32::NAN]).is_err());
+}
+
+#[test]
+fn planes_have_the_bytes_they_need() {
+    let mut random = Random::new(3);
+    let (mut odd, mut padded) = (0, 0);
+    for round in 0..400 {
+        let layout = Layout::random(&mut random, 40, 12, 1 + round % 2);
+        let bytes = plane(&mut random, &layout);
+        assert_eq!(bytes.len(), layout.needed());
+        assert!(layout.stride >= layout.row());
+        odd += layout.stride % 2;
+        padded += usize::from(layout.stride > layout.row());
+        for smaller in layout.smaller() {
+            assert!(smaller.needed() < layout.needed() || smaller.stride < layout.stride);
+            assert!(smaller.stride >= smaller.row());
+        }
+
+        let other = flipped(&mut random, &bytes).expect("a plane is not empty");
+        let changed = bytes.iter().zip(&other).filter(|(a, b)| a != b).count();
+        assert_eq!((other.len(), changed), (bytes.len(), 1));
+        let short = cut(&bytes).expect("a plane is not empty");
+        assert_eq!(short, bytes[..bytes.len() - 1]);
+    }
+    assert!(odd > 50 && padded > 50, "{odd} odd, {padded} padded");
+    assert_eq!((flipped(&mut random, &[]), cut(&[])), (None, None));
+}
+
+#[test]
+fn the_generator_is_splitmix64_and_keeps_its_bounds() {
+    // The first numbers of the published algorithm from seed 0.
+    let mut random = Random::new(0);
+    assert_eq!(random.next(), 0xE220_A839_7B1D_CDAF);
+    assert_eq!(random.next(), 0x6E78_9E6A_A1B9_65F4);
+    for _ in 0..2000 {
+        assert!(random.below(3) < 3);
+        assert!((5..=9).contains(&random.between(5, 9)));
+        let near = random.near(&[0, 4352, u64::MAX]);
+        assert!(near <= 2 || (4350..=4354).contains(&near) || near >= u64::MAX - 2);
+        let float = random.near_float(&[0.4375]);
+        assert!((float - 0.4375).abs() < 1e-6);
+    }
+    let one = Random::for_run(7, "comb").next();
+    assert_eq!(one, Random::for_run(7, "comb").next());
+    assert_ne!(one, Random::for_run(7, "weave").next());
+    assert_ne!(one, Random::for_run(8, "comb").next());
+}
+
+#[test]
+fn a_wrong_seed_is_refused_with_a_reason() {
+    assert_eq!(read_seed("17"), Ok(17));
+    assert_eq!(read_seed("0xFFFFFFFFFFFFFFFF"), Ok(u64::MAX));
+    for wrong in ["", "seven", "-1", "0x", "18446744073709551616"] {
+        let complaint = read_seed(wrong).expect_err(wrong);
+        assert!(
+            complaint.contains("expected a number from 0"),
+            "{complaint}"
+        );
+    }
+}
