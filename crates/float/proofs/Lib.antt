@@ -1,0 +1,8 @@
+-- The laws that later crates cite, and what the functions' proofs share. Assumes nothing.
+pub mod Order
+pub mod Rounded
+pub mod Small
+pub mod Range
+pub mod Ends
+pub mod Byte
+pub mod Claims
