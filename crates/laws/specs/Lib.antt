@@ -1,4 +1,5 @@
 -- The definitions that several crates cite. Assumes nothing.
 pub mod Refusal
 pub mod Sums
+pub mod Rows
 pub mod Claims

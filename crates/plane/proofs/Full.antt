@@ -1,0 +1,14 @@
+-- The largest code of a depth is a number that a float holds exactly, and not 0. Assumes nothing.
+use Prim.Native.Nat.{ℕ, _-_, _^_, _≤_, _<_, min, max}
+use native.Mathlib.Omega.{arith}
+use lib.Pow.{pow-mono}
+use Rattle.plane.specs.Plane.{fullCode}
+
+depths : (depth : ℕ) → (8 ≤ max 8 (min depth 16)) × (max 8 (min depth 16) ≤ 16)
+depths depth = (omega arith, omega arith)
+
+pub full-least : (depth : ℕ) → 0 < fullCode depth
+full-least depth = omega (arith, pow-mono (depths depth .0))
+
+pub full-most : (depth : ℕ) → fullCode depth ≤ 2 ^ 24
+full-most depth = omega (arith, pow-mono (depths depth .1))

@@ -1,0 +1,4 @@
+-- The laws that later crates cite, and the claims. Assumes nothing.
+pub mod Full
+pub mod Coordinates
+pub mod Claims

@@ -1,0 +1,16 @@
+-- `plane::Planes::planar` meets its contract. Assumes nothing.
+use borrow.Author.Needs.{needs}
+use Rattle.plane.proofs.Planes.planar.Statement.{statement}
+use Rattle.plane.proofs.Planes.planar.Tie as tie
+
+half-of-requires : tie.Need-half-of-requires
+half-of-requires c κs = search needs
+
+half-of-requires-2 : tie.Need-half-of-requires-2
+half-of-requires-2 c κs = search needs
+
+returns : tie.Need-returns
+returns c = cc
+
+pub planar-spec : {M : Type 1} → statement M
+planar-spec = tie.close (tie.spec half-of-requires half-of-requires-2 returns)

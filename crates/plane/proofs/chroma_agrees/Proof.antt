@@ -1,0 +1,16 @@
+-- `plane::chroma_agrees` meets its contract. Assumes nothing.
+use borrow.Author.Needs.{needs}
+use Rattle.plane.proofs.chroma_agrees.Statement.{statement}
+use Rattle.plane.proofs.chroma_agrees.Tie as tie
+
+half-of-requires : tie.Need-half-of-requires
+half-of-requires c κs = search needs
+
+half-of-requires-2 : tie.Need-half-of-requires-2
+half-of-requires-2 c κs = search needs
+
+returns : tie.Need-returns
+returns c = cc
+
+pub chroma-agrees-spec : {M : Type 1} → statement M
+chroma-agrees-spec = tie.close (tie.spec half-of-requires half-of-requires-2 returns)

@@ -1,0 +1,64 @@
+-- What the definitions and contracts of `plane` come to. proofs/Claims.antt proves each claim under its name in small letters.
+-- Assumes nothing.
+use Prim.Native.Nat.{ℕ, _<_, _≤_, _^_}
+use mathlib.Core.Path.{_≡_}
+use mathlib.Core.Bool.{true}
+use mathlib.Core.List.{List}
+use lib.Dec.{T}
+use lib.IntN.{ℤ, pos, _+ℤ_, _*ℤ_}
+use lib.ListN.{getD}
+use Rattle.laws.specs.Refusal.{Says}
+use Rattle.float.specs.Bounds.{Small, NotNegative, Unit}
+use Rattle.plane.specs.declared.Shape.{Shape}
+use Rattle.plane.specs.declared.Sampled.{Sampled}
+use Rattle.plane.specs.declared.Coded.{Coded}
+use Rattle.plane.specs.Plane.{codeOf, fullCode, valueOf}
+use Rattle.plane.specs.Coordinates.{inReach, held, parityOf, biasOf, unbiased}
+use Rattle.plane.specs.Answer.{sampledNo, sampledValues, codedNo, codedValues, codeTests, atTests}
+
+-- 0 exactly when no number applies, and n exactly when n applies and no lower one does
+abbrev pub AtSays : Type 0
+AtSays = (s : Shape) (bytes : ℕ) (x y : ℤ) → Says (atTests s bytes x y)
+
+abbrev pub CodeSays : Type 0
+CodeSays = (s : Shape) (bytes : ℕ) (x y : ℤ) → Says (codeTests s bytes x y)
+
+-- an answer is settled by its number and its values
+abbrev pub OneSampled : Type 0
+OneSampled = (a b : Sampled) → sampledNo a ≡ sampledNo b → sampledValues a ≡ sampledValues b → a ≡ b
+
+abbrev pub OneCoded : Type 0
+OneCoded = (a b : Coded) → codedNo a ≡ codedNo b → codedValues a ≡ codedValues b → a ≡ b
+
+-- every element is a byte
+abbrev pub AllBytes : List ℕ → Type 0
+AllBytes bytes = (i : ℕ) → getD bytes i 0 < 256
+
+-- a code fits 16 bits, whatever the shape
+abbrev pub CodeFits : Type 0
+CodeFits = (bytes : List ℕ) → AllBytes bytes → (s : Shape) (x y : ℕ) → codeOf bytes s x y < 2 ^ 16
+
+-- every value is finite, at most 2 ^ 16 in size and not negative
+abbrev pub ValueFinite : Type 0
+ValueFinite = (bytes : List ℕ) → AllBytes bytes → (s : Shape) (x y : ℤ) → Small 16 (valueOf bytes s x y) × NotNegative (valueOf bytes s x y)
+
+-- and it lies in 0..1 where the code is at most 2 ^ depth - 1
+abbrev pub ValueInUnit : Type 0
+ValueInUnit =
+    (bytes : List ℕ) (s : Shape) (x y : ℤ) → codeOf bytes s (held (s .width) x) (held (s .height) y) ≤ fullCode (s .depth) → Unit (valueOf bytes s x y)
+
+-- What the bias means: the held coordinate is the signed one, and a row's parity is that of its held coordinate.
+abbrev pub BiasKeeps : Type 0
+BiasKeeps = (x : ℤ) → inReach x ≡ true → unbiased (biasOf x) ≡ x
+
+abbrev pub BiasIsEven : Type 0
+BiasIsEven = (x : ℤ) → inReach x ≡ true → parityOf x ≡ parityOf (pos (biasOf x))
+
+-- the parity is the Euclidean remainder, of a negative row too: y = 2 q + r with 0 ≤ r < 2
+pub record Euclidean (y : ℤ) : Type 0 where
+  pub quotient : ℤ
+  pub splits : quotient *ℤ pos 2 +ℤ pos (parityOf y) ≡ y
+  pub small : parityOf y < 2
+
+abbrev pub ParityIsEuclidean : Type 0
+ParityIsEuclidean = (y : ℤ) → Euclidean y

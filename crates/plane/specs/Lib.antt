@@ -1,0 +1,5 @@
+-- The definitions that the contracts of `plane` cite, and those that later crates read pictures by. Assumes nothing.
+pub mod Plane
+pub mod Coordinates
+pub mod Answer
+pub mod Claims

@@ -1,0 +1,420 @@
+// Copyright 2026 Till0196
+// SPDX-License-Identifier: Apache-2.0
+// Carried over from core/src/output/video/filter.rs (`Samples`, `Planes`), and changed: a plane is a
+// lent slice beside its shape, the layout is an enum, and what is out of bounds is refused by number.
+//
+// A plane of samples: its shape and bounds, and what stands at a place. Narrow types make every place
+// of every shape a u64, and a read past the end gives 0, so the functions below the two public reads
+// take every input too. Assumes nothing.
+pub mod refusal;
+
+ghost use mathlib.Core.Path.{_≡_};
+ghost use Prim.Native.Nat.{_+_, _*_, _-_, _<_, _≤_, _^_, min, max};
+ghost use lib.IntN.{pos, natAbs};
+ghost use lib.ListN.{length, getD};
+ghost use lib.Ieee as Ieee;
+ghost use lib.Ieee.{binary32};
+ghost use Rattle.laws.specs.Refusal.{lowest, whenDone};
+ghost use Rattle.float.specs.Bounds.{Small};
+ghost use Rattle.plane.specs.Plane.{components, component, sampleBytes, rowBytes, goodShape, planeBytes, startOf, storedAt, biplanar, shift, codeOf, fullCode, valueOf, agree, half, chromaAgrees, planarOf, biplanarOf};
+ghost use Rattle.plane.specs.Coordinates.{inReach, inside, held, parityOf, biasOf, unbiased};
+ghost use Rattle.plane.specs.Answer.{sampledNo, sampledValues, codedNo, codedValues, readTests, codeNo, atNo};
+
+// Which samples of its bytes a plane gives. Component, shift and samples per row follow from it.
+pub enum Layout {
+    // One component, codes as they stand.
+    Planar,
+    // The luma plane of a biplanar frame: codes deeper than 8 bits stand in the high bits.
+    Luma,
+    // The first and the second of two components that share a plane of a biplanar frame.
+    First,
+    Second,
+}
+
+// The width is that of one component. Stride is in bytes.
+pub struct Shape {
+    pub width: u16,
+    pub height: u16,
+    pub depth: u8,
+    pub stride: u32,
+    pub layout: Layout,
+}
+
+// The three planes of a frame.
+pub struct Planes {
+    pub luma: Shape,
+    pub cb: Shape,
+    pub cr: Shape,
+}
+
+pub enum Coded {
+    Value(u16),
+    Refused(u8),
+}
+
+pub enum Sampled {
+    Value(f32),
+    Refused(u8),
+}
+
+// How far a coordinate is moved to be held as a natural number: even, so that a row keeps its parity.
+const BIAS: u32 = 65544;
+
+fn components_of(layout: Layout) -> usize
+    ensures { λ r. ⌜ (r ≡ components layout) × (r ≤ 2) ⌝ }
+{
+    match layout {
+        Layout::Planar => 1,
+        Layout::Luma => 1,
+        Layout::First => 2,
+        Layout::Second => 2,
+    }
+}
+
+fn component_of(layout: Layout) -> usize
+    ensures { λ r. ⌜ (r ≡ component layout) × (r ≤ 1) ⌝ }
+{
+    match layout {
+        Layout::Planar => 0,
+        Layout::Luma => 0,
+        Layout::First => 0,
+        Layout::Second => 1,
+    }
+}
+
+fn is_biplanar(layout: Layout) -> bool
+    ensures { λ r. ⌜ r ≡ biplanar layout ⌝ }
+{
+    match layout {
+        Layout::Planar => false,
+        Layout::Luma => true,
+        Layout::First => true,
+        Layout::Second => true,
+    }
+}
+
+fn sample_bytes(depth: u32) -> usize
+    ensures { λ r. ⌜ (r ≡ sampleBytes depth) × (r ≤ 2) ⌝ }
+{
+    if depth <= 8 { 1 } else { 2 }
+}
+
+// Once or twice a number of at most 34 bits.
+fn times(n: usize, few: usize) -> usize
+    requires { ⌜ (n < 2 ^ 34) × (few ≤ 2) ⌝ }
+    ensures { λ r. ⌜ (r ≡ n * few) × (r ≤ 2 * n) ⌝ }
+{
+    n * few
+}
+
+fn row_bytes(width: u32, depth: u32, layout: Layout) -> usize
+    ensures { λ r. ⌜ (r ≡ width * components layout * sampleBytes depth) × (r < 2 ^ 34) ⌝ }
+{
+    times(
+        times(width as usize, components_of(layout)),
+        sample_bytes(depth),
+    )
+}
+
+// The bounds, on numbers that need not fit a `Shape`.
+pub fn within(width: u32, height: u32, depth: u32, stride: u32, layout: Layout) -> bool
+    ensures { λ r. ⌜ r ≡ goodShape (record { width = width; height = height; depth = depth; stride = stride; layout = layout }) ⌝ }
+{
+    let row = row_bytes(width, depth, layout);
+    (1 <= width)
+        & (width <= 8192)
+        & (1 <= height)
+        & (height <= 4352)
+        & (8 <= depth)
+        & (depth <= 16)
+        & (stride <= 65536)
+        & (row <= stride as usize)
+}
+
+pub fn good_shape(s: Shape) -> bool
+    ensures { λ r. ⌜ r ≡ goodShape s ⌝ }
+{
+    let layout = s.layout;
+    within(
+        s.width as u32,
+        s.height as u32,
+        s.depth as u32,
+        s.stride,
+        layout,
+    )
+}
+
+// y rows of a stride, and what stands before a sample in its own row.
+fn rows(y: u16, stride: u32, more: usize) -> usize
+    requires { ⌜ more < 2 ^ 34 ⌝ }
+    ensures { λ r. ⌜ (r ≡ y * stride + more) × (r < 2 ^ 49) ⌝ }
+{
+    (y as usize) * (stride as usize) + more
+}
+
+fn less_one(n: u16) -> u16
+    ensures { λ r. ⌜ r ≡ n - 1 ⌝ }
+{
+    if n == 0 { 0 } else { n - 1 }
+}
+
+pub fn plane_bytes(s: Shape) -> usize
+    ensures { λ r. ⌜ r ≡ planeBytes s ⌝ }
+{
+    let layout = s.layout;
+    rows(
+        less_one(s.height),
+        s.stride,
+        row_bytes(s.width as u32, s.depth as u32, layout),
+    )
+}
+
+fn start_of(s: Shape, x: u16, y: u16) -> usize
+    ensures { λ r. ⌜ (r ≡ startOf s x y) × (r < 2 ^ 49) ⌝ }
+{
+    let layout = s.layout;
+    let lane = times(x as usize, components_of(layout)) + component_of(layout);
+    rows(y, s.stride, times(lane, sample_bytes(s.depth as u32)))
+}
+
+fn wide(byte: u8) -> u16
+    ensures { λ r. ⌜ (r ≡ byte) × (r < 256) ⌝ }
+{
+    byte as u16
+}
+
+fn byte_at(plane: &[u8], i: usize) -> u16
+    ensures { λ r. ⌜ (r ≡ getD (now (plane .entry)) i 0) × (r < 256) ⌝ }
+{
+    if i < plane.len() { wide(plane[i]) } else { 0 }
+}
+
+fn stored_at(plane: &[u8], depth: u8, i: usize) -> u16
+    requires { ⌜ i < 2 ^ 49 ⌝ }
+    ensures { λ r. ⌜ r ≡ storedAt (now (plane .entry)) depth i ⌝ }
+{
+    if depth <= 8 {
+        return byte_at(plane, i);
+    }
+    byte_at(plane, i) + 256 * byte_at(plane, i + 1)
+}
+
+fn shift_of(layout: Layout, depth: u8) -> u8
+    ensures { λ r. ⌜ (r ≡ shift layout depth) × (r ≤ 7) ⌝ }
+{
+    if is_biplanar(layout) & (9 <= depth) {
+        if depth <= 16 { 16 - depth } else { 0 }
+    } else {
+        0
+    }
+}
+
+// The one place where a code is read, of any shape; 0 past the end.
+pub fn code_at(plane: &[u8], s: Shape, x: u16, y: u16) -> u16
+    ensures { λ r. ⌜ r ≡ codeOf (now (plane .entry)) s x y ⌝ }
+{
+    let layout = s.layout;
+    stored_at(plane, s.depth, start_of(s, x, y)) >> shift_of(layout, s.depth)
+}
+
+// The coordinate c - 65,544 brought into 0 .. size - 1.
+fn hold(size: u16, c: u32) -> u16
+    ensures { λ r. ⌜ r ≡ held size (unbiased c) ⌝ }
+{
+    if c < BIAS {
+        return 0;
+    }
+    let at = c - BIAS;
+    if at < size as u32 {
+        at as u16
+    } else {
+        less_one(size)
+    }
+}
+
+// 2^depth - 1 as a float, which holds it exactly.
+pub fn full_value(depth: u8) -> f32
+    ensures { λ r. ⌜ r ≡ Ieee.ofInt binary32 (pos (fullCode depth)) ⌝ }
+{
+    ((1u32 << within_depths(depth)) - 1) as f32
+}
+
+fn within_depths(depth: u8) -> u32
+    ensures { λ r. ⌜ (r ≡ max 8 (min depth 16)) × (8 ≤ r) × (r ≤ 16) ⌝ }
+{
+    if depth < 8 {
+        return 8;
+    }
+    if 16 < depth { 16 } else { depth as u32 }
+}
+
+// The value at held coordinates (`biased`), of any shape.
+pub fn value_at(plane: &[u8], s: Shape, x: u32, y: u32) -> f32
+    ensures { λ r. ⌜ (r ≡ valueOf (now (plane .entry)) s (unbiased x) (unbiased y)) × Small 16 r ⌝ }
+{
+    let column = hold(s.width, x);
+    let row = hold(s.height, y);
+    (code_at(plane, s, column, row) as f32) / full_value(s.depth)
+}
+
+pub fn in_reach(x: i32) -> bool
+    ensures { λ r. ⌜ r ≡ inReach x ⌝ }
+{
+    (-65536 <= x) & (x <= 65536)
+}
+
+// A coordinate as the code holds it: x + 65,544, and 0 for an x out of reach.
+pub fn biased(x: i32) -> u32
+    ensures { λ r. ⌜ r ≡ biasOf x ⌝ }
+{
+    if in_reach(x) { (x + 65544) as u32 } else { 0 }
+}
+
+// The parity of a row, also of one above the picture. A remainder here has the dividend's sign, so it
+// is held to 0 and not to 1.
+pub fn row_parity(y: i32) -> u32
+    ensures { λ r. ⌜ r ≡ parityOf y ⌝ }
+{
+    if y % 2 == 0 { 0 } else { 1 }
+}
+
+fn is_inside(x: i32, size: u16) -> bool
+    ensures { λ r. ⌜ r ≡ inside size x ⌝ }
+{
+    (0 <= x) & (x < size as i32)
+}
+
+// The number of a read: 3, 4 or 6.
+fn read_no(coordinates: bool, s: Shape, bytes: usize) -> u8
+    ensures { λ r. ⌜ r ≡ lowest (readTests coordinates s bytes) ⌝ }
+{
+    refusal::lowest_of(
+        coordinates,
+        good_shape(s),
+        true,
+        plane_bytes(s) <= bytes,
+        true,
+        true,
+    )
+}
+
+// The code at a place inside the plane.
+pub fn code(plane: &[u8], s: Shape, x: i32, y: i32) -> Coded
+    ensures { λ r. ⌜ (codedNo r ≡ codeNo s (length (now (plane .entry))) x y) × (codedValues r ≡ whenDone (codeNo s (length (now (plane .entry))) x y) (codeOf (now (plane .entry)) s (natAbs x) (natAbs y))) ⌝ }
+{
+    let inner = is_inside(x, s.width) & is_inside(y, s.height);
+    let no = read_no(inner, s, plane.len());
+    if no == 0 {
+        Coded::Value(code_at(plane, s, x as u16, y as u16))
+    } else {
+        Coded::Refused(no)
+    }
+}
+
+// The value at coordinates that may lie outside the plane.
+pub fn at(plane: &[u8], s: Shape, x: i32, y: i32) -> Sampled
+    ensures { λ r. ⌜ (sampledNo r ≡ atNo s (length (now (plane .entry))) x y) × (sampledValues r ≡ whenDone (atNo s (length (now (plane .entry))) x y) (valueOf (now (plane .entry)) s x y)) ⌝ }
+{
+    let no = read_no(in_reach(x) & in_reach(y), s, plane.len());
+    if no == 0 {
+        Sampled::Value(value_at(plane, s, biased(x), biased(y)))
+    } else {
+        Sampled::Refused(no)
+    }
+}
+
+pub fn planes_agree(a: Shape, b: Shape) -> bool
+    ensures { λ r. ⌜ r ≡ agree a b ⌝ }
+{
+    (a.width == b.width) & (a.height == b.height) & (a.depth == b.depth)
+}
+
+fn half_of(n: u16) -> u16
+    ensures { λ r. ⌜ r ≡ half n ⌝ }
+{
+    ((n as u32 + 1) / 2) as u16
+}
+
+pub fn chroma_agrees(luma: Shape, chroma: Shape) -> bool
+    ensures { λ r. ⌜ r ≡ chromaAgrees luma chroma ⌝ }
+{
+    let columns = half_of(luma.width);
+    let rows = half_of(luma.height);
+    (chroma.width == columns) & (chroma.height == rows) & (chroma.depth == luma.depth)
+}
+
+impl Planes {
+    pub fn planar(
+        width: u16,
+        height: u16,
+        depth: u8,
+        luma_stride: u32,
+        cb_stride: u32,
+        cr_stride: u32,
+    ) -> Planes
+        ensures { λ r. ⌜ r ≡ planarOf width height depth «luma_stride» «cb_stride» «cr_stride» ⌝ }
+    {
+        let columns = half_of(width);
+        let rows = half_of(height);
+        Planes {
+            luma: Shape {
+                width: width,
+                height: height,
+                depth: depth,
+                stride: luma_stride,
+                layout: Layout::Planar,
+            },
+            cb: Shape {
+                width: columns,
+                height: rows,
+                depth: depth,
+                stride: cb_stride,
+                layout: Layout::Planar,
+            },
+            cr: Shape {
+                width: columns,
+                height: rows,
+                depth: depth,
+                stride: cr_stride,
+                layout: Layout::Planar,
+            },
+        }
+    }
+
+    // Luma, and the chroma pair in one plane (NV12, P010).
+    pub fn biplanar(
+        width: u16,
+        height: u16,
+        depth: u8,
+        luma_stride: u32,
+        chroma_stride: u32,
+    ) -> Planes
+        ensures { λ r. ⌜ r ≡ biplanarOf width height depth «luma_stride» «chroma_stride» ⌝ }
+    {
+        let columns = half_of(width);
+        let rows = half_of(height);
+        Planes {
+            luma: Shape {
+                width: width,
+                height: height,
+                depth: depth,
+                stride: luma_stride,
+                layout: Layout::Luma,
+            },
+            cb: Shape {
+                width: columns,
+                height: rows,
+                depth: depth,
+                stride: chroma_stride,
+                layout: Layout::First,
+            },
+            cr: Shape {
+                width: columns,
+                height: rows,
+                depth: depth,
+                stride: chroma_stride,
+                layout: Layout::Second,
+            },
+        }
+    }
+}

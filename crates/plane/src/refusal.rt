@@ -1,0 +1,58 @@
+// The numbers that a call gives back, each with document 01's words ("What the desk gets back"), and
+// the lowest of those that apply. Assumes nothing.
+ghost use mathlib.Core.Path.{_≡_};
+ghost use mathlib.Core.List.{[], _∷_};
+ghost use Rattle.laws.specs.Refusal.{lowest};
+
+// Done.
+pub const DONE: u8 = 0;
+// Readback has no plane, or more than 3.
+pub const PLANE_COUNT: u8 = 1;
+// Readback has only luma.
+pub const ONLY_LUMA: u8 = 2;
+// A code names nothing, or a coordinate is outside.
+pub const OUTSIDE: u8 = 3;
+// A shape, or an RGBA width or height, is outside the bounds under Planes.
+pub const SHAPE: u8 = 4;
+// Planes that must agree differ.
+pub const DIFFER: u8 = 5;
+// A lent input is shorter than its shape needs.
+pub const SHORT_INPUT: u8 = 6;
+// A lent output or store is too short for what the call writes.
+pub const SHORT_OUTPUT: u8 = 7;
+// One of the nine colour numbers, or of the three samples given to `to_rgb`, is outside its range or a NaN.
+pub const COLOUR: u8 = 8;
+// A push of either kind comes when the detector has taken 4,000,000,000 frames since fresh or reset.
+pub const TOO_MANY_FRAMES: u8 = 9;
+// `predict` is asked more than 1,000,000 ahead.
+pub const TOO_FAR_AHEAD: u8 = 10;
+
+// The number of the first test that fails, and 0 where none does. A call that never gives one of the
+// numbers passes `true` for its test, which adds nothing.
+pub fn lowest_of(
+    outside: bool,
+    shape: bool,
+    differ: bool,
+    short_input: bool,
+    short_output: bool,
+    colour: bool,
+) -> u8
+    ensures { λ r. ⌜ r ≡ lowest ((3, outside) ∷ (4, shape) ∷ (5, differ) ∷ (6, «short_input») ∷ (7, «short_output») ∷ (8, colour) ∷ []) ⌝ }
+{
+    if !outside {
+        return OUTSIDE;
+    }
+    if !shape {
+        return SHAPE;
+    }
+    if !differ {
+        return DIFFER;
+    }
+    if !short_input {
+        return SHORT_INPUT;
+    }
+    if !short_output {
+        return SHORT_OUTPUT;
+    }
+    if colour { DONE } else { COLOUR }
+}
