@@ -1,3 +1,5 @@
 -- The definitions that the exported functions' contracts cite. Assumes nothing.
 pub mod Fields
+pub mod Planes
+pub mod Combs
 pub mod Claims

@@ -1,50 +1,7 @@
 // What the capture desk's Rust host calls: functions on numbers and byte slices, exported by their
 // plain names. Each answers with the number of document 01, "What the desk gets back"; a value goes
 // to a lent place, which a refusal leaves as it was. host/desk declares them for Rust, and its test
-// holds the declarations to this file. Assumes nothing.
-ghost use mathlib.Core.Path.{_≡_};
-ghost use Rattle.laws.specs.Refusal.{written};
-ghost use Rattle.field.specs.Field.{firstRowOf};
-ghost use Rattle.desk.specs.Fields.{structureNamed, firstFieldNo, firstFieldNumber};
-
-// A code names nothing.
-const NAMES_NOTHING: u8 = 3;
-
-fn parity_number(parity: field::Parity) -> u8
-    ensures { λ r. ⌜ r ≡ firstRowOf parity ⌝ }
-{
-    match parity {
-        field::Parity::Top => 0,
-        field::Parity::Bottom => 1,
-    }
-}
-
-fn structure_named(code: u8) -> field::Structure
-    ensures { λ r. ⌜ r ≡ structureNamed code ⌝ }
-{
-    if code == 0 {
-        return field::Structure::Frame;
-    }
-    if code == 1 {
-        field::Structure::Top
-    } else {
-        field::Structure::Bottom
-    }
-}
-
-// The field that comes first in time, 0 top and 1 bottom, of a picture whose structure is 0 frame,
-// 1 top or 2 bottom and whose flag is 0 or 1. Another code gets 3.
-#[no_mangle]
-pub extern "C" fn desk_first_field(structure: u8, top_field_first: u8, parity: &mut u8) -> u8
-    ensures { λ r. ⌜ r ≡ firstFieldNo structure «top_field_first» ⌝ }
-    ensures { λ _. ⌜ now (parity .exit) ≡ written (firstFieldNo structure «top_field_first») (firstFieldNumber structure «top_field_first») (now (parity .entry)) ⌝ }
-{
-    if (structure <= 2) & (top_field_first <= 1) {
-        *parity = parity_number(field::first_field(
-            structure_named(structure),
-            top_field_first == 1,
-        ));
-        return 0;
-    }
-    NAMES_NOTHING
-}
+// holds the declarations to these files. Assumes nothing.
+pub mod combs;
+pub mod fields;
+pub mod planes;

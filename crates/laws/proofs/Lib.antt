@@ -1,3 +1,4 @@
 -- Assumes nothing.
 pub mod Refusal
+pub mod Sums
 pub mod Claims

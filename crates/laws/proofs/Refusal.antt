@@ -3,11 +3,11 @@
 use Prim.Native.Nat.{ℕ, _≤_, _<_}
 use mathlib.Core.Path.{_≡_, refl, sym, ap, subst, _∙_}
 use mathlib.Core.Logic.{_⊎_, inl, inr}
-use mathlib.Core.Bool.{Bool, true, false, _&&_, true≢false}
-use mathlib.Core.List.{List, [], _∷_}
+use mathlib.Core.Bool.{Bool, true, false, cond, _&&_, true≢false}
+use mathlib.Core.List.{List, [], _∷_, nil≢cons}
 use native.Mathlib.Nat.{le-trans, le-antisymm, le-of-eq}
 use native.Mathlib.Omega.{arith}
-use lib.Dec.{T, leb, leb→le, lit<}
+use lib.Dec.{T, leb, eqb, leb→le, lit<}
 use borrow.Author.Tests.{ne-eqb}
 use Rattle.laws.specs.Refusal.{lowest, whenDone, written, rising, Applies, Lowest, Says}
 
@@ -114,3 +114,46 @@ gives {A} {n} {m} {x} {y} e z p = (sym z ∙ e, subst (λ (k : ℕ). x ∷ [] �
 -- at another number it has none
 pub refuses : {A : Type 0} {n m : ℕ} (y : A) → n ≡ m → (n ≡ 0 → ⊥) → (n ≡ m) × ([] ≡ whenDone m y)
 refuses {A} {n} {m} y e z = (e, subst (λ (k : ℕ). [] ≡ whenDone k y) e (simp (ne-eqb n 0 z)))
+
+-- ---- a call that hands on another's answer, whose number is n and whose values are `whenDone n y`
+-- at 0 the value is written
+pub done-writes : {A : Type 0} {n : ℕ} {x : A} (y old : A) → 0 ≡ n → x ∷ [] ≡ whenDone n y → (0 ≡ n) × (x ≡ written n y old)
+done-writes {A} {n} {x} y old z e = (z, single x y (e ∙ ap (λ (k : ℕ). whenDone k y) (sym z)) ∙ ap (λ (k : ℕ). written k y old) z)
+  where
+    head-or : A → List A → A
+    head-or a [] = a
+    head-or a (b ∷ rest) = b
+
+    single : (x y : A) → x ∷ [] ≡ y ∷ [] → x ≡ y
+    single x y p = ap (head-or x) p
+
+-- at another number what stood there stays
+pub refusal-keeps : {A B : Type 0} {m n : ℕ} (y : B) (new old : A) → m ≡ n → [] ≡ whenDone n y → (m ≡ n) × (old ≡ written n new old)
+refusal-keeps {A} {B} {m} {n} y new old e none = (e, kept (eqb n 0) none)
+  where
+    kept : (b : Bool) → [] ≡ cond b (y ∷ []) [] → old ≡ cond b new old
+    kept true p = absurd (nil≢cons p)
+    kept false p = refl
+
+-- The same of an answer r that an arm knows by its case. `no` gives an answer's number and `values` its values; the other call's number and
+-- value are those of this one.
+module _ {R A : Type 0} (no : R → ℕ) (values : R → List A) {r case : R} (known : r ≡ case) {n n′ : ℕ} (same-number : n′ ≡ n) {y y′ : A} (same-value : y′ ≡ y) where
+  number : no r ≡ n′ → no case ≡ n
+  number e = sym (ap no known) ∙ e ∙ same-number
+
+  held : values r ≡ whenDone n′ y′ → values case ≡ whenDone n y
+  held e = sym (ap values known) ∙ e ∙ (λ i. whenDone (same-number i) (same-value i))
+
+  pub handed-value :
+      {x : A} (old : A) → no case ≡ 0 → values case ≡ x ∷ [] → no r ≡ n′ → values r ≡ whenDone n′ y′ → (0 ≡ n) × (x ≡ written n y old)
+  handed-value old zero-no one-value e v = done-writes y old (sym zero-no ∙ number e) (sym one-value ∙ held v)
+
+  pub handed-refusal :
+      {B : Type 0} {m : ℕ} (new old : B) → no case ≡ m → values case ≡ [] → no r ≡ n′ → values r ≡ whenDone n′ y′ → (m ≡ n) × (old ≡ written n new old)
+  handed-refusal new old some-no no-value e v = refusal-keeps y new old (sym some-no ∙ number e) (sym no-value ∙ held v)
+
+-- a test that passed stands in front of the other call's
+pub number-behind :
+    (n : ℕ) {passes : Bool} {tests tests′ : List (ℕ × Bool)} → passes ≡ true → tests′ ≡ tests → lowest tests′ ≡ lowest ((n, passes) ∷ tests)
+unfolding lowest
+number-behind n {passes} {tests} {tests′} h e = ap lowest e ∙ ap (λ (b : Bool). cond b (lowest tests) n) (sym h)

@@ -12,7 +12,7 @@ fn digit(byte: u8) -> u8 {
 
 fn print_field(structure: u8, top_field_first: u8) {
     let mut parity = 0u8;
-    let number = desk::desk_first_field(structure, top_field_first, &mut parity);
+    let number = desk::fields::desk_first_field(structure, top_field_first, &mut parity);
     if number == 0 {
         if parity == 0 {
             io::write_all(STDOUT_FILENO, b"top\n");

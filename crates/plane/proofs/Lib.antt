@@ -1,4 +1,5 @@
 -- The laws that later crates cite, and the claims. Assumes nothing.
 pub mod Full
 pub mod Coordinates
+pub mod Bounds
 pub mod Claims

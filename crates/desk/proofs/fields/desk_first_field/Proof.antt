@@ -1,9 +1,9 @@
--- `desk::desk_first_field` meets its contract: the branch decides the one test, and the value is that of the calls. Assumes nothing.
+-- `desk::fields::desk_first_field` meets its contract: the branch decides the one test, and the value is that of the calls. Assumes nothing.
 use borrow.Author.Needs.{needs}
 use mathlib.Core.Path.{refl}
 use Rattle.laws.specs.Refusal.{lowest}
-use Rattle.desk.proofs.desk_first_field.Statement.{statement}
-use Rattle.desk.proofs.desk_first_field.Tie as tie
+use Rattle.desk.proofs.fields.desk_first_field.Statement.{statement}
+use Rattle.desk.proofs.fields.desk_first_field.Tie as tie
 
 structure-named-requires : tie.Need-structure-named-requires
 structure-named-requires c κs = search needs

@@ -1,7 +1,7 @@
--- `desk::structure_named` meets its contract: each branch decides one test of `structureNamed`. Assumes nothing.
+-- `desk::fields::structure_named` meets its contract: each branch decides one test of `structureNamed`. Assumes nothing.
 use borrow.Author.Tests.{eq-eqb, ne-eqb}
-use Rattle.desk.proofs.structure_named.Statement.{statement}
-use Rattle.desk.proofs.structure_named.Tie as tie
+use Rattle.desk.proofs.fields.structure_named.Statement.{statement}
+use Rattle.desk.proofs.fields.structure_named.Tie as tie
 
 returns : tie.Need-returns
 returns c = simp (eq-eqb _ _ (c .if1 .taken))

@@ -1,0 +1,75 @@
+-- Laws of rows: what three rows lent as parts of a plane have, and that their bends are those of the plane's codes. Assumes nothing.
+use Prim.Native.Nat.{ℕ, _+_, _-_, _*_, _≤_, _<_}
+use mathlib.Core.Path.{_≡_, refl, ap, ap₂, _∙_}
+use mathlib.Core.List.{List}
+use native.Mathlib.Nat.{add-mul, mul-le-mul-right}
+use native.Mathlib.Omega.{arith}
+use lib.ListN.{length, take, drop, length-drop}
+use lib.Seq.{getD-take, length-take-le}
+use Rattle.laws.specs.Sums.{sumOver, apart}
+use Rattle.laws.proofs.Sums.{same-terms}
+use Rattle.comb.specs.declared.Kind.{Kind}
+use Rattle.comb.specs.declared.Kind.the-variants.{Byte, Pair, Green}
+use Rattle.comb.specs.Comb.{bendOf}
+use Rattle.comb.specs.Rows.{sizeOf, codeIn, bendIn, codesOf, Rows}
+
+-- a bend of three numbers is that of the codes which they are
+pub same-bend : {a b c up here down r : ℕ} → r ≡ apart (2 * b) (a + c) → a ≡ up → b ≡ here → c ≡ down → r ≡ apart (2 * here) (up + down)
+same-bend e u h d = e ∙ (λ i. apart (2 * h i) (u i + d i))
+
+-- ---- where rows start
+pub next-row : (y stride : ℕ) {start : ℕ} → start ≡ y * stride → start + stride ≡ (y + 1) * stride
+next-row y stride e = rw add-mul (omega arith)
+
+row-after-next : (y stride : ℕ) {start : ℕ} → start ≡ y * stride → start + stride + stride ≡ (y + 2) * stride
+row-after-next y stride e = rw add-mul (omega arith)
+
+-- a row that has two below it starts two strides before the last, or earlier
+pub two-below : (y height stride : ℕ) → y + 2 < height → y * stride + stride + stride ≤ (height - 1) * stride
+two-below y height stride h =
+    let rows : y + 2 ≤ height - 1 = omega arith in
+    rw (row-after-next y stride refl) (mul-le-mul-right stride rows)
+
+-- ---- a row lent as a part of its plane
+part-length : (bytes : List ℕ) (start n : ℕ) → start + n ≤ length bytes → length (take n (drop start bytes)) ≡ n
+part-length bytes start n h = length-take-le n (drop start bytes) (rw length-drop (omega arith))
+
+-- in each of its columns it has the code that stands there without the cut
+part-code : (kind : Kind) (bytes : List ℕ) (width x : ℕ) → x < width → codeIn kind (take (width * sizeOf kind) bytes) x ≡ codeIn kind bytes x
+part-code Byte bytes width x h = getD-take (width * 1) bytes x 0 (omega arith)
+part-code Pair bytes width x h =
+    ap₂ (λ (low high : ℕ). low + 256 * high) (getD-take (width * 2) bytes (x * 2) 0 (omega arith)) (getD-take (width * 2) bytes (x * 2 + 1) 0 (omega arith))
+part-code Green bytes width x h = getD-take (width * 4) bytes (x * 4 + 1) 0 (omega arith)
+
+-- row y of a plane, lent as a part, has the plane's codes
+row-code :
+    (kind : Kind) (bytes : List ℕ) (width stride x y : ℕ) {n start : ℕ} {row : List ℕ} →
+    n ≡ width * sizeOf kind → start ≡ y * stride → row ≡ take n (drop start bytes) → x < width → codeIn kind row x ≡ codesOf kind bytes stride x y
+row-code kind bytes width stride x y long s r l =
+    (λ i. codeIn kind (r i) x) ∙ (λ i. codeIn kind (take (long i) (drop (s i) bytes)) x) ∙ part-code kind (drop (y * stride) bytes) width x l
+
+-- ---- rows y, y + 1 and y + 2 of a plane, lent as parts of n bytes
+module _
+    (kind : Kind) (bytes : List ℕ) (width stride y : ℕ) {n start : ℕ} {up here down : List ℕ}
+    (long : n ≡ width * sizeOf kind)
+    (s : start ≡ y * stride)
+    (u : up ≡ take n (drop start bytes))
+    (h : here ≡ take n (drop (start + stride) bytes))
+    (d : down ≡ take n (drop (start + stride + stride) bytes)) where
+  pub lent-rows : width ≤ 8192 → start + stride + stride + n ≤ length bytes → Rows kind width up here down
+  lent-rows w last = record {
+    above = ap length u ∙ part-length bytes start n (omega arith) ∙ long;
+    inner = ap length h ∙ part-length bytes (start + stride) n (omega arith) ∙ long;
+    below = ap length d ∙ part-length bytes (start + stride + stride) n (omega arith) ∙ long;
+    narrow = w;
+  }
+
+  -- their bends, added up, are those of the plane's codes
+  pub lent-bends : {sum : ℕ} → sum ≡ sumOver width (bendIn kind up here down) → sum ≡ sumOver width (λ x. bendOf (codesOf kind bytes stride) x y)
+  lent-bends e =
+      e
+      ∙ same-terms width _ _
+      (λ x l.
+      same-bend refl (row-code kind bytes width stride x y long s u l)
+      (row-code kind bytes width stride x (y + 1) long (next-row y stride s) h l)
+      (row-code kind bytes width stride x (y + 2) long (row-after-next y stride s) d l))

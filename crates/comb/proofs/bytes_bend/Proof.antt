@@ -1,0 +1,66 @@
+-- `comb::bytes_bend` meets its contract. The loop keeps `Summed` of the columns passed. Assumes nothing.
+use Prim.Native.Nat.{_-_}
+use native.Mathlib.Omega.{arith}
+use borrow.Author.Needs.{needs}
+use Rattle.laws.proofs.Sums.{Summed, starts, adds, ends}
+use Rattle.comb.specs.Rows.{bendIn}
+use Rattle.comb.specs.declared.Kind.the-variants.{Byte}
+use Rattle.comb.proofs.Rows.{same-bend}
+use Rattle.comb.proofs.bytes_bend.Statement.{statement}
+use Rattle.comb.proofs.bytes_bend.Tie as tie
+
+abbrev Inv-loop : tie.InvT-loop
+Inv-loop up here down width sum₀ x₀ sum x = Summed 131070 (bendIn Byte up here down) width sum x
+
+abbrev μ-loop : tie.MeasureT-loop
+μ-loop up here down width sum₀ x₀ sum x = width - x
+
+loop-holds : tie.Need-loop-holds Inv-loop μ-loop
+loop-holds c = starts _ _ _
+
+byte-at-requires : tie.Need-byte-at-requires Inv-loop μ-loop
+byte-at-requires c κs = search needs
+
+byte-at-requires-2 : tie.Need-byte-at-requires-2 Inv-loop μ-loop
+byte-at-requires-2 c κs = search needs
+
+byte-at-requires-3 : tie.Need-byte-at-requires-3 Inv-loop μ-loop
+byte-at-requires-3 c κs = search needs
+
+bend-requires : tie.Need-bend-requires Inv-loop μ-loop
+bend-requires c κs = search needs
+
+add-sum : tie.Need-add-sum Inv-loop μ-loop
+add-sum c = omega arith
+
+add-x : tie.Need-add-x Inv-loop μ-loop
+add-x c = omega arith
+
+loop-less : tie.Need-loop-less Inv-loop μ-loop
+loop-less c = omega arith
+
+loop-again : tie.Need-loop-again Inv-loop μ-loop
+loop-again c =
+    let turn = c .before .before .before .before in
+    adds (turn .before .loop .inv) (turn .loop-test .taken) (c .bend .ensures .1)
+    (same-bend (c .bend .ensures .0) (c .before .before .before .byte-at .ensures .0) (c .before .before .byte-at2 .ensures .0) (c .before .byte-at3 .ensures .0))
+
+returns : tie.Need-returns Inv-loop μ-loop
+returns c = ends (c .before .loop .inv) (c .loop-test .left)
+
+pub bytes-bend-spec : {M : Type 1} → statement M
+bytes-bend-spec =
+    tie.close
+    (tie.spec
+    Inv-loop
+    μ-loop
+    loop-holds
+    byte-at-requires
+    byte-at-requires-2
+    byte-at-requires-3
+    bend-requires
+    add-sum
+    add-x
+    loop-less
+    loop-again
+    returns)

@@ -1,0 +1,22 @@
+-- `comb::comb_no` meets its contract. Assumes nothing.
+use Rattle.laws.specs.Refusal.{lowest}
+use borrow.Author.Needs.{needs}
+use Rattle.comb.proofs.comb_no.Statement.{statement}
+use Rattle.comb.proofs.comb_no.Tie as tie
+
+good-shape-requires : tie.Need-good-shape-requires
+good-shape-requires c κs = search needs
+
+plane-bytes-requires : tie.Need-plane-bytes-requires
+plane-bytes-requires c κs = search needs
+
+lowest-of-requires : tie.Need-lowest-of-requires
+lowest-of-requires c κs = search needs
+
+returns : tie.Need-returns
+unfolding lowest
+returns c = cc
+
+pub comb-no-spec : {M : Type 1} → statement M
+comb-no-spec =
+    tie.close (tie.spec good-shape-requires plane-bytes-requires lowest-of-requires returns)

@@ -1,0 +1,5 @@
+-- The definitions that the contracts of `comb` cite. Assumes nothing.
+pub mod Comb
+pub mod Answer
+pub mod Rows
+pub mod Claims

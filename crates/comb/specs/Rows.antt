@@ -1,0 +1,40 @@
+-- How the private functions read a row: where in its bytes a column's code stands. No public contract cites this file. Assumes nothing.
+use Prim.Native.Nat.{ℕ, _+_, _*_, _≤_}
+use mathlib.Core.Path.{_≡_}
+use mathlib.Core.Bool.{cond}
+use mathlib.Core.List.{List}
+use lib.Dec.{leb}
+use lib.ListN.{length, getD, drop}
+use Rattle.laws.specs.Sums.{apart}
+use Rattle.comb.specs.declared.Kind.{Kind}
+use Rattle.comb.specs.declared.Kind.the-variants.{Byte, Pair, Green}
+
+abbrev pub kindOf : ℕ → Kind
+kindOf depth = cond (leb depth 8) Byte Pair
+
+-- how many bytes of a row a column has
+abbrev pub sizeOf : Kind → ℕ
+sizeOf Byte = 1
+sizeOf Pair = 2
+sizeOf Green = 4
+
+-- the code in column x of a row
+abbrev pub codeIn : Kind → List ℕ → ℕ → ℕ
+codeIn Byte row x = getD row x 0
+codeIn Pair row x = getD row (x * 2) 0 + 256 * getD row (x * 2 + 1) 0
+codeIn Green row x = getD row (x * 4 + 1) 0
+
+-- |2 * here - up - down| in column x of three rows
+abbrev pub bendIn : Kind → List ℕ → List ℕ → List ℕ → ℕ → ℕ
+bendIn kind up here down x = apart (2 * codeIn kind here x) (codeIn kind up x + codeIn kind down x)
+
+-- the codes of a plane whose row y starts at y * stride
+abbrev pub codesOf : Kind → List ℕ → ℕ → ℕ → ℕ → ℕ
+codesOf kind bytes stride x y = codeIn kind (drop (y * stride) bytes) x
+
+-- three rows of one length, narrow enough that a sum of theirs fits 32 bits: a bend is at most 2 * 65,535, and 8,192 * 131,070 < 2 ^ 32
+pub record Rows (kind : Kind) (width : ℕ) (up here down : List ℕ) : Type 0 where
+  pub above : length up ≡ width * sizeOf kind
+  pub inner : length here ≡ width * sizeOf kind
+  pub below : length down ≡ width * sizeOf kind
+  pub narrow : width ≤ 8192

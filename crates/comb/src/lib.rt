@@ -1,0 +1,245 @@
+// Copyright 2026 Till0196
+// SPDX-License-Identifier: Apache-2.0
+// Carried over from core/src/output/video/filter.rs (`comb`, `comb_rgba`), and changed: a plane is a
+// lent slice beside its numbers, rows are read as parts, and what is out of bounds is refused by number.
+//
+// Comb: how far each row stands out from the two beside it, summed over a picture. Assumes nothing.
+ghost use mathlib.Core.Path.{_≡_};
+ghost use Prim.Native.Nat.{_+_, _*_, _-_, _<_, _≤_};
+ghost use lib.ListN.{length, take, drop};
+ghost use Rattle.laws.specs.Refusal.{whenDone};
+ghost use Rattle.laws.specs.Sums.{sumOver, apart};
+ghost use Rattle.comb.specs.Comb.{combOf, planeComb, rgbaComb};
+ghost use Rattle.comb.specs.Answer.{combedNo, combedValues, combNo, rgbaNo};
+ghost use Rattle.comb.specs.Rows.{kindOf, sizeOf, codeIn, bendIn, codesOf, Rows};
+ghost use Rattle.comb.specs.declared.Kind.the-variants.{Byte, Pair, Green};
+use plane::Layout;
+use plane::Shape;
+
+pub enum Combed {
+    Value(u64),
+    Refused(u8),
+}
+
+// How a row holds the code of a column.
+enum Kind {
+    // One byte.
+    Byte,
+    // Two bytes, the low one first.
+    Pair,
+    // Byte 1 of four.
+    Green,
+}
+
+// |2 * here - up - down|.
+fn bend(up: u32, here: u32, down: u32) -> u32
+    requires { ⌜ (up ≤ 65535) × (here ≤ 65535) × (down ≤ 65535) ⌝ }
+    ensures { λ r. ⌜ (r ≡ apart (2 * here) (up + down)) × (r ≤ 131070) ⌝ }
+{
+    let twice = 2 * here;
+    let beside = up + down;
+    if twice < beside {
+        beside - twice
+    } else {
+        twice - beside
+    }
+}
+
+fn wide(byte: u8) -> u32
+    ensures { λ r. ⌜ (r ≡ byte) × (r ≤ 255) ⌝ }
+{
+    byte as u32
+}
+
+// The code in column x of a row of each kind.
+fn byte_at(row: &[u8], x: usize) -> u32
+    requires { ⌜ x < length (now row) ⌝ }
+    ensures { λ r. ⌜ (r ≡ codeIn Byte (now (row .entry)) x) × (r ≤ 65535) ⌝ }
+{
+    wide(row[x])
+}
+
+fn pair_at(row: &[u8], x: usize) -> u32
+    requires { ⌜ x * 2 + 1 < length (now row) ⌝ }
+    ensures { λ r. ⌜ (r ≡ codeIn Pair (now (row .entry)) x) × (r ≤ 65535) ⌝ }
+{
+    let i = x * 2;
+    wide(row[i]) + 256 * wide(row[i + 1])
+}
+
+fn green_at(row: &[u8], x: usize) -> u32
+    requires { ⌜ x * 4 + 1 < length (now row) ⌝ }
+    ensures { λ r. ⌜ (r ≡ codeIn Green (now (row .entry)) x) × (r ≤ 65535) ⌝ }
+{
+    wide(row[x * 4 + 1])
+}
+
+// The bends of a row, added up. A function for each kind, so that no loop asks the kind of each sample:
+// the compiler then drops every index test, and vectorises bytes and pairs.
+fn bytes_bend(up: &[u8], here: &[u8], down: &[u8], width: usize) -> u32
+    requires { ⌜ Rows Byte width (now up) (now here) (now down) ⌝ }
+    ensures { λ r. ⌜ r ≡ sumOver width (bendIn Byte (now (up .entry)) (now (here .entry)) (now (down .entry))) ⌝ }
+{
+    let mut sum: u32 = 0;
+    let mut x = 0;
+    while x < width {
+        sum += bend(byte_at(up, x), byte_at(here, x), byte_at(down, x));
+        x += 1;
+    }
+    sum
+}
+
+fn pairs_bend(up: &[u8], here: &[u8], down: &[u8], width: usize) -> u32
+    requires { ⌜ Rows Pair width (now up) (now here) (now down) ⌝ }
+    ensures { λ r. ⌜ r ≡ sumOver width (bendIn Pair (now (up .entry)) (now (here .entry)) (now (down .entry))) ⌝ }
+{
+    let mut sum: u32 = 0;
+    let mut x = 0;
+    while x < width {
+        sum += bend(pair_at(up, x), pair_at(here, x), pair_at(down, x));
+        x += 1;
+    }
+    sum
+}
+
+fn greens_bend(up: &[u8], here: &[u8], down: &[u8], width: usize) -> u32
+    requires { ⌜ Rows Green width (now up) (now here) (now down) ⌝ }
+    ensures { λ r. ⌜ r ≡ sumOver width (bendIn Green (now (up .entry)) (now (here .entry)) (now (down .entry))) ⌝ }
+{
+    let mut sum: u32 = 0;
+    let mut x = 0;
+    while x < width {
+        sum += bend(green_at(up, x), green_at(here, x), green_at(down, x));
+        x += 1;
+    }
+    sum
+}
+
+fn row_bend(kind: Kind, up: &[u8], here: &[u8], down: &[u8], width: usize) -> u32
+    requires { ⌜ Rows kind width (now up) (now here) (now down) ⌝ }
+    ensures { λ r. ⌜ r ≡ sumOver width (bendIn kind (now (up .entry)) (now (here .entry)) (now (down .entry))) ⌝ }
+{
+    match kind {
+        Kind::Byte => bytes_bend(up, here, down, width),
+        Kind::Pair => pairs_bend(up, here, down, width),
+        Kind::Green => greens_bend(up, here, down, width),
+    }
+}
+
+fn size_of(kind: Kind) -> usize
+    ensures { λ r. ⌜ (r ≡ sizeOf kind) × (r ≤ 4) ⌝ }
+{
+    match kind {
+        Kind::Byte => 1,
+        Kind::Pair => 2,
+        Kind::Green => 4,
+    }
+}
+
+fn kind_of(depth: u8) -> Kind
+    ensures { λ r. ⌜ r ≡ kindOf depth ⌝ }
+{
+    if depth <= 8 { Kind::Byte } else { Kind::Pair }
+}
+
+// The row of n bytes that starts at a place of the plane.
+fn row_at(plane: &[u8], start: usize, n: usize) -> &[u8]
+    requires { ⌜ start + n ≤ length (now plane) ⌝ }
+    ensures { λ r. ⌜ now r ≡ take n (drop start (now (plane .entry))) ⌝ }
+{
+    &plane[start..start + n]
+}
+
+// The bends of every inner row, added up.
+fn rows_bend(kind: Kind, plane: &[u8], width: usize, height: u16, stride: usize) -> u64
+    requires { ⌜ (width ≤ 8192) × ((height - 1) * stride + width * sizeOf kind ≤ length (now plane)) ⌝ }
+    ensures { λ r. ⌜ r ≡ combOf (codesOf kind (now (plane .entry)) stride) width height ⌝ }
+{
+    let n = width * size_of(kind);
+    let mut total: u64 = 0;
+    let mut y: u16 = 0;
+    let mut up = 0;
+    while y + 2 < height {
+        let here = up + stride;
+        let down = here + stride;
+        total += row_bend(
+            kind,
+            row_at(plane, up, n),
+            row_at(plane, here, n),
+            row_at(plane, down, n),
+            width,
+        ) as u64;
+        up = here;
+        y += 1;
+    }
+    total
+}
+
+fn comb_no(width: u16, height: u16, depth: u8, stride: u32, bytes: usize) -> u8
+    ensures { λ r. ⌜ r ≡ combNo width height depth stride bytes ⌝ }
+{
+    let shape = Shape {
+        width: width,
+        height: height,
+        depth: depth,
+        stride: stride,
+        layout: Layout::Planar,
+    };
+    plane::refusal::lowest_of(
+        true,
+        plane::good_shape(shape),
+        true,
+        plane::plane_bytes(shape) <= bytes,
+        true,
+        true,
+    )
+}
+
+fn rgba_no(width: u16, height: u16, bytes: usize) -> u8
+    ensures { λ r. ⌜ r ≡ rgbaNo width height bytes ⌝ }
+{
+    plane::refusal::lowest_of(
+        true,
+        (1 <= width) & (width <= 8192) & (1 <= height) & (height <= 4352),
+        true,
+        (height as usize) * (width as usize) * 4 <= bytes,
+        true,
+        true,
+    )
+}
+
+// The comb of a plane of one component a sample, its codes as they stand.
+pub fn comb(plane: &[u8], width: u16, height: u16, depth: u8, stride: u32) -> Combed
+    ensures { λ r. ⌜ (combedNo r ≡ combNo width height depth stride (length (now (plane .entry)))) × (combedValues r ≡ whenDone (combNo width height depth stride (length (now (plane .entry)))) (planeComb (now (plane .entry)) width height depth stride)) ⌝ }
+{
+    let no = comb_no(width, height, depth, stride, plane.len());
+    if no == 0 {
+        Combed::Value(rows_bend(
+            kind_of(depth),
+            plane,
+            width as usize,
+            height,
+            stride as usize,
+        ))
+    } else {
+        Combed::Refused(no)
+    }
+}
+
+// The comb of the green of an RGBA picture.
+pub fn comb_rgba(rgba: &[u8], width: u16, height: u16) -> Combed
+    ensures { λ r. ⌜ (combedNo r ≡ rgbaNo width height (length (now (rgba .entry)))) × (combedValues r ≡ whenDone (rgbaNo width height (length (now (rgba .entry)))) (rgbaComb (now (rgba .entry)) width height)) ⌝ }
+{
+    let no = rgba_no(width, height, rgba.len());
+    if no == 0 {
+        Combed::Value(rows_bend(
+            Kind::Green,
+            rgba,
+            width as usize,
+            height,
+            width as usize * 4,
+        ))
+    } else {
+        Combed::Refused(no)
+    }
+}

@@ -1,0 +1,59 @@
+-- `desk::combs::desk_comb_rgba` meets its contract. Assumes nothing.
+use mathlib.Core.Path.{refl}
+use lib.ListN.{length}
+use denote.Ref.{now}
+use Rattle.laws.proofs.Refusal.{handed-value, handed-refusal}
+use Rattle.comb.specs.Comb.{rgbaComb}
+use Rattle.comb.specs.Answer.{combedNo, combedValues, rgbaNo}
+use borrow.Author.Needs.{needs}
+use Rattle.desk.proofs.combs.desk_comb_rgba.Statement.{statement}
+use Rattle.desk.proofs.combs.desk_comb_rgba.Tie as tie
+
+at-most-65535-requires : tie.Need-at-most-65535-requires
+at-most-65535-requires c κs = search needs
+
+at-most-65535-requires-2 : tie.Need-at-most-65535-requires-2
+at-most-65535-requires-2 c κs = search needs
+
+comb-rgba-requires : tie.Need-comb-rgba-requires
+comb-rgba-requires c κs = search needs
+
+enum-known-found : tie.Need-enum-known-found
+enum-known-found c = search needs
+
+enum-known-no : tie.Need-enum-known-no
+enum-known-no c = search needs
+
+returns : tie.Need-returns
+returns c =
+    let k = c .before .before .before in
+    let a = k .before .before .before .before .args in
+    let columns = k .before .before .at-most-65535 .ensures in
+    let rows = k .before .at-most-655352 .ensures in
+    handed-value combedNo combedValues (c .before .found .given .1)
+    (λ i. rgbaNo (columns i) (rows i) (length (now (a .rgba))))
+    (λ i. rgbaComb (now (a .rgba)) (columns i) (rows i))
+    _ refl refl (k .comb-rgba .ensures .0) (k .comb-rgba .ensures .1)
+
+returns-2 : tie.Need-returns-2
+returns-2 c =
+    let k = c .before .before .before in
+    let a = k .before .before .before .before .args in
+    let columns = k .before .before .at-most-65535 .ensures in
+    let rows = k .before .at-most-655352 .ensures in
+    handed-refusal combedNo combedValues (c .before .no .given .1)
+    (λ i. rgbaNo (columns i) (rows i) (length (now (a .rgba))))
+    (λ i. rgbaComb (now (a .rgba)) (columns i) (rows i))
+    _ _ refl refl (k .comb-rgba .ensures .0) (k .comb-rgba .ensures .1)
+
+pub desk-comb-rgba-spec : {M : Type 1} → statement M
+desk-comb-rgba-spec =
+    tie.close
+    (tie.spec
+    at-most-65535-requires
+    at-most-65535-requires-2
+    comb-rgba-requires
+    enum-known-found
+    enum-known-no
+    returns
+    returns-2)

@@ -1,0 +1,55 @@
+-- `desk::planes::desk_code` meets its contract: the layout's code is tested here, and the rest is `plane::code`'s own answer. Assumes nothing.
+use borrow.Author.Needs.{needs}
+use borrow.Author.Tests.{le-leb, lt-leb}
+use mathlib.Core.Path.{_≡_, refl}
+use lib.IntN.{natAbs}
+use lib.ListN.{length}
+use denote.Ref.{now}
+use mir.Facts.{toZ-ofZ}
+use Rattle.laws.specs.Refusal.{lowest}
+use Rattle.laws.proofs.Refusal.{handed-value, handed-refusal, number-behind}
+use Rattle.plane.specs.Plane.{codeOf}
+use Rattle.plane.specs.Answer.{codedNo, codedValues, codeTests}
+use Rattle.desk.proofs.planes.desk_code.Statement.{statement}
+use Rattle.desk.proofs.planes.desk_code.Tie as tie
+
+returns : tie.Need-returns
+unfolding lowest
+returns c = simp (lt-leb _ _ (c .if1 .taken)) (refl, refl)
+
+shape-named-requires : tie.Need-shape-named-requires
+shape-named-requires c κs = search needs
+
+code-requires : tie.Need-code-requires
+code-requires c κs = search needs
+
+enum-known-found : tie.Need-enum-known-found
+enum-known-found c = search needs
+
+enum-known-no : tie.Need-enum-known-no
+enum-known-no c = search needs
+
+returns-2 : tie.Need-returns-2
+returns-2 d =
+    let c = d .before .before .before in
+    let a = c .before .before .before .before .before .args in
+    let f = c .before .before .before .before .before .fits in
+    handed-value codedNo codedValues (d .before .found .given .1)
+    (number-behind 3 (le-leb _ _ (c .before .before .if1 .left))
+    (λ i. codeTests (c .before .shape-named .ensures i) (length (now (a .plane))) (toZ-ofZ (f .x) i) (toZ-ofZ (f .y) i)))
+    (λ i. codeOf (now (a .plane)) (c .before .shape-named .ensures i) (natAbs (toZ-ofZ (f .x) i)) (natAbs (toZ-ofZ (f .y) i)))
+    _ refl refl (c .code .ensures .0) (c .code .ensures .1)
+
+returns-3 : tie.Need-returns-3
+returns-3 d =
+    let c = d .before .before .before in
+    let a = c .before .before .before .before .before .args in
+    let f = c .before .before .before .before .before .fits in
+    handed-refusal codedNo codedValues (d .before .no .given .1)
+    (number-behind 3 (le-leb _ _ (c .before .before .if1 .left))
+    (λ i. codeTests (c .before .shape-named .ensures i) (length (now (a .plane))) (toZ-ofZ (f .x) i) (toZ-ofZ (f .y) i)))
+    (λ i. codeOf (now (a .plane)) (c .before .shape-named .ensures i) (natAbs (toZ-ofZ (f .x) i)) (natAbs (toZ-ofZ (f .y) i)))
+    _ _ refl refl (c .code .ensures .0) (c .code .ensures .1)
+
+pub desk-code-spec : {M : Type 1} → statement M
+desk-code-spec = tie.close (tie.spec returns shape-named-requires code-requires enum-known-found enum-known-no returns-2 returns-3)

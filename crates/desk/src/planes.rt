@@ -1,0 +1,103 @@
+// Planes by number, and the reads of one sample. Assumes nothing.
+use plane::refusal;
+ghost use mathlib.Core.Path.{_≡_};
+ghost use Prim.Native.Nat.{min};
+ghost use lib.IntN.{natAbs};
+ghost use lib.ListN.{length};
+ghost use Rattle.laws.specs.Refusal.{written};
+ghost use Rattle.plane.specs.Plane.{codeOf, valueOf};
+ghost use Rattle.desk.specs.Planes.{layoutNamed, shapeNamed, codeNo, atNo};
+
+// A plane's shape as the host gives it: sizes in samples, the stride in bytes, and the layout by its
+// code: 0 planar, 1 the luma of a biplanar frame, 2 and 3 the first and the second of two components
+// that share a plane. The numbers are wider than a shape's own, so that none can wrap into the bounds.
+#[repr(C)]
+pub struct PlaneNumbers {
+    pub width: u32,
+    pub height: u32,
+    pub depth: u32,
+    pub stride: u32,
+    pub layout: u32,
+}
+
+fn layout_named(code: u32) -> plane::Layout
+    ensures { λ r. ⌜ r ≡ layoutNamed code ⌝ }
+{
+    if code == 0 {
+        return plane::Layout::Planar;
+    }
+    if code == 1 {
+        return plane::Layout::Luma;
+    }
+    if code == 2 {
+        plane::Layout::First
+    } else {
+        plane::Layout::Second
+    }
+}
+
+pub fn at_most_65535(n: u32) -> u16
+    ensures { λ r. ⌜ r ≡ min n 65535 ⌝ }
+{
+    if n < 65536 { n as u16 } else { 65535 }
+}
+
+pub fn at_most_255(n: u32) -> u8
+    ensures { λ r. ⌜ r ≡ min n 255 ⌝ }
+{
+    if n < 256 { n as u8 } else { 255 }
+}
+
+// The shape that the numbers name. One too large for its place counts as the largest there, which is
+// out of bounds too.
+pub fn shape_named(numbers: PlaneNumbers) -> plane::Shape
+    ensures { λ r. ⌜ r ≡ shapeNamed numbers ⌝ }
+{
+    let layout = layout_named(numbers.layout);
+    let width = at_most_65535(numbers.width);
+    let height = at_most_65535(numbers.height);
+    let depth = at_most_255(numbers.depth);
+    plane::Shape {
+        width: width,
+        height: height,
+        depth: depth,
+        stride: numbers.stride,
+        layout: layout,
+    }
+}
+
+// The code at a place inside the plane. Numbers 3, 4 and 6.
+#[no_mangle]
+pub extern "C" fn desk_code(plane: &[u8], shape: PlaneNumbers, x: i32, y: i32, code: &mut u16) -> u8
+    ensures { λ r. ⌜ r ≡ codeNo shape (length (now (plane .entry))) x y ⌝ }
+    ensures { λ _. ⌜ now (code .exit) ≡ written (codeNo shape (length (now (plane .entry))) x y) (codeOf (now (plane .entry)) (shapeNamed shape) (natAbs x) (natAbs y)) (now (code .entry)) ⌝ }
+{
+    if 3 < shape.layout {
+        return refusal::OUTSIDE;
+    }
+    match plane::code(plane, shape_named(shape), x, y) {
+        plane::Coded::Value(found) => {
+            *code = found;
+            0
+        }
+        plane::Coded::Refused(no) => no,
+    }
+}
+
+// The value at coordinates from -65,536 to 65,536, each clamped to the plane. Numbers 3, 4 and 6.
+#[no_mangle]
+pub extern "C" fn desk_at(plane: &[u8], shape: PlaneNumbers, x: i32, y: i32, value: &mut f32) -> u8
+    ensures { λ r. ⌜ r ≡ atNo shape (length (now (plane .entry))) x y ⌝ }
+    ensures { λ _. ⌜ now (value .exit) ≡ written (atNo shape (length (now (plane .entry))) x y) (valueOf (now (plane .entry)) (shapeNamed shape) x y) (now (value .entry)) ⌝ }
+{
+    if 3 < shape.layout {
+        return refusal::OUTSIDE;
+    }
+    match plane::at(plane, shape_named(shape), x, y) {
+        plane::Sampled::Value(found) => {
+            *value = found;
+            0
+        }
+        plane::Sampled::Refused(no) => no,
+    }
+}
