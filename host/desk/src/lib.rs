@@ -1,4 +1,5 @@
-//! The exported calls of the proved crate `desk`, for Rust programs.
+//! The exported calls of the proved crate `desk`, for Rust programs, in the
+//! files of the same names.
 //!
 //! Each call has a wrapper of its own shape: the same numbers go in, the same
 //! number comes out, and what is lent is lent as a reference. It is safe,
@@ -6,57 +7,16 @@
 //! types say. Where it is small, a friendlier form stands beside it, with
 //! [`Refusal`] as its error.
 //!
-//! `tests/declarations.rs` holds the declarations to the Rattle source.
+//! Every declaration is held to crates/desk/src by `tests/declarations.rs`: by
+//! name, order and type of each parameter; a slice `name` is `name` and
+//! `name_len`.
 
+mod combs;
+mod fields;
+mod planes;
 mod refusal;
 
+pub use combs::{comb, comb_of, comb_rgba, comb_rgba_of};
+pub use fields::{Parity, first_field, first_parity};
+pub use planes::{PlaneNumbers, at, code, code_of, value_of};
 pub use refusal::Refusal;
-
-// Held to crates/desk/src by name, order and type of each parameter; a slice
-// `name` is `name` and `name_len`.
-unsafe extern "C" {
-    fn desk_first_field(structure: u8, top_field_first: u8, parity: *mut u8) -> u8;
-}
-
-/// One of the two fields of a frame; the desk's numbers are 0 and 1.
-#[derive(Debug, Clone, Copy, PartialEq, Eq)]
-pub enum Parity {
-    Top,
-    Bottom,
-}
-
-/// Which field of a frame comes first. `structure` is 0 for a frame, 1 for a
-/// top field, 2 for a bottom field; `top_field_first` is 0 or 1. Gives 0, and
-/// 0 (top) or 1 (bottom) in `parity`; or 3 where a code names nothing, and
-/// then `parity` is untouched.
-#[inline]
-pub fn first_field(structure: u8, top_field_first: u8, parity: &mut u8) -> u8 {
-    // SAFETY: the call takes every pair of numbers, and writes at most the one
-    // byte behind `parity`, which is ours alone while the call lasts.
-    unsafe { desk_first_field(structure, top_field_first, parity) }
-}
-
-/// [`first_field`] with its answer as a value.
-pub fn first_parity(structure: u8, top_field_first: u8) -> Result<Parity, Refusal> {
-    let mut parity = 0;
-    Refusal::check(first_field(structure, top_field_first, &mut parity))?;
-    Ok(match parity {
-        0 => Parity::Top,
-        1 => Parity::Bottom,
-        other => unreachable!("desk_first_field promises parity 0 or 1, and gave {other}"),
-    })
-}
-
-#[cfg(test)]
-mod tests {
-    use super::{Parity, Refusal, first_parity};
-
-    #[test]
-    fn the_friendly_form_says_what_the_number_says() {
-        assert_eq!(first_parity(0, 1), Ok(Parity::Top));
-        assert_eq!(first_parity(0, 0), Ok(Parity::Bottom));
-        assert_eq!(first_parity(2, 1), Ok(Parity::Bottom));
-        let refused = first_parity(3, 0);
-        assert_eq!(refused.map_err(Refusal::number), Err(3));
-    }
-}

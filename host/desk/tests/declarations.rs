@@ -826,6 +826,72 @@ mod checker {
         assert!(nowhere[0].contains("in crates/"), "{nowhere:?}");
     }
 
+    /// As crates/desk has it: a root that names its files, a struct by value
+    /// from one file in a signature of another, and what `use` brings in.
+    #[test]
+    fn files_of_one_crate_are_read_together() {
+        let root = r#"
+            // What the host calls.
+            pub mod planes;
+            pub mod reads;
+        "#;
+        let planes = r#"
+            use plane::refusal;
+            ghost use mathlib.Core.Path.{_≡_};
+            ghost use Rattle.desk.specs.Planes.{shapeNamed, codeNo};
+            #[repr(C)]
+            pub struct Numbers {
+                pub width: u32,
+                pub layout: u32,
+            }
+            pub fn at_most(n: u32) -> u16 ensures { λ r. ⌜ r ≡ min n 65535 ⌝ } { n as u16 }
+        "#;
+        let reads = r#"
+            use crate::planes;
+            use plane::Shape;
+            #[no_mangle]
+            pub extern "C" fn read(lent: &[u8], shape: planes::Numbers, x: i32, out: &mut f32) -> u8
+                ensures { λ r. ⌜ r ≡ codeNo shape (length (now (lent .entry))) x ⌝ }
+            { 0 }
+        "#;
+        let declared = r#"
+            #[repr(C)]
+            #[derive(Debug)]
+            pub struct Numbers {
+                /// In samples.
+                pub width: u32,
+                pub layout: u32,
+            }
+            unsafe extern "C" {
+                fn read(lent: *const u8, lent_len: usize, shape: Numbers, x: i32, out: *mut f32) -> u8;
+            }
+        "#;
+        let judged = |declared: &str| {
+            let rattle = [root, planes, reads].map(|text| Text::new("made-up.rt", text));
+            let rust = [Text::new("made-up.rs", declared)];
+            problems(&Side::of_rattle(&rattle, &rattle), &Side::of_rust(&rust))
+        };
+        assert_eq!(judged(declared), Vec::<String>::new());
+        for (from, to, word) in [
+            (
+                "shape: Numbers",
+                "shape: *const Numbers",
+                "`shape: Numbers`",
+            ),
+            (
+                "shape: Numbers, x: i32",
+                "x: i32, shape: Numbers",
+                "parameter 3",
+            ),
+            ("pub layout: u32", "pub layout: u8", "the fields differ"),
+            ("pub width: u32,", "", "the fields differ"),
+        ] {
+            let found = judged(&declared.replacen(from, to, 1));
+            assert_eq!(found.len(), 1, "{found:#?}");
+            assert!(found[0].contains(word), "no `{word}` in: {}", found[0]);
+        }
+    }
+
     #[test]
     fn half_marked_exports_are_refused() {
         let unmarked = RATTLE.replacen(

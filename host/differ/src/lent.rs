@@ -2,9 +2,10 @@
 //! compared, before, inside and after the part that it was lent.
 
 use std::fmt;
+use std::hint::black_box;
 use std::ops::Range;
 
-use crate::case::Difference;
+use crate::case::{Difference, same};
 use crate::random::Random;
 
 /// A value that is made of noise and compared by its bits.
@@ -107,6 +108,65 @@ impl<T: Plain> Guarded<T> {
             return Err(Difference::new(what, shown(*now), shown(*wanted)));
         }
         Ok(())
+    }
+}
+
+/// Calls with one lent place for the answer, twice: the place and those beside
+/// it hold one pattern, then another that differs from it in every bit, so that
+/// a write shows in at least one of the two. `wanted` is the answer, or the
+/// number of the refusal, which leaves the place as it is.
+pub fn one_place<T: Plain>(
+    call: impl Fn(&mut T) -> u8,
+    wanted: Result<T, u8>,
+) -> Result<u8, Difference> {
+    let number = wanted.err().unwrap_or(0);
+    for pattern in [0x5555_5555_5555_5555, 0xAAAA_AAAA_AAAA_AAAA] {
+        let was = T::of_noise(pattern);
+        let mut places = [was; 3];
+        let given = call(&mut places[1]);
+        // The compiler must not suppose that the call kept to its own place.
+        let places = black_box(places);
+        same("the number", given, number)?;
+        let expected = [
+            ("the place before the answer", was),
+            match wanted {
+                Ok(answer) => ("the answer", answer),
+                Err(_) => ("the lent place, which was not to be written", was),
+            },
+            ("the place after the answer", was),
+        ];
+        for (now, (what, expected)) in places.into_iter().zip(expected) {
+            if now.bits() != expected.bits() {
+                return Err(Difference::new(what, shown(now), shown(expected)));
+            }
+        }
+    }
+    Ok(number)
+}
+
+/// Bytes that are lent for reading, with noise on either side: what is read
+/// outside of them is not what the Rust reads there.
+#[derive(Debug, Clone)]
+pub struct Between {
+    all: Vec<u8>,
+    lent: Range<usize>,
+}
+
+impl Between {
+    pub fn noise(bytes: &[u8]) -> Self {
+        let mut random = Random::new(bytes.len() as u64);
+        // The start changes with the length, so that it is often unaligned.
+        let start = GUARD + bytes.len() % 16;
+        let lent = start..start + bytes.len();
+        let mut all = Vec::with_capacity(lent.end + GUARD);
+        all.extend(random.bytes(start));
+        all.extend(bytes);
+        all.extend(random.bytes(GUARD));
+        Self { all, lent }
+    }
+
+    pub fn lent(&self) -> &[u8] {
+        &self.all[self.lent.clone()]
     }
 }
 

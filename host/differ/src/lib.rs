@@ -2,10 +2,13 @@
 //! every result is compared: numbers, values, the bytes that were written and
 //! those that were not.
 //!
-//! [`case`] is the frame of a run, [`random`], [`plane`] and [`lent`] make its
-//! inputs and its buffers, and [`runs`] lists the runs, one for each call.
+//! [`case`] is the frame of a run, [`random`], [`plane`], [`given`] and
+//! [`lent`] make its inputs and its buffers, [`judge`] says which number
+//! document 01 gives, and [`runs`] lists the runs, one for each call.
 
 pub mod case;
+pub mod given;
+pub mod judge;
 pub mod lent;
 pub mod plane;
 pub mod random;

@@ -1,0 +1,329 @@
+//! Planes that are lent for reading: a shape by its numbers, which need not be
+//! within the bounds, a length, which need not suffice, and bytes.
+
+use std::cell::OnceCell;
+use std::fmt;
+
+use desk::PlaneNumbers;
+use oracle::mediadecoder::video::Plane;
+
+use crate::case::smaller_numbers;
+use crate::judge;
+use crate::lent::Between;
+use crate::plane::{Layout, plane};
+use crate::random::Random;
+
+/// How the bytes of an input are made.
+#[derive(Debug, Clone, PartialEq, Eq)]
+pub enum Contents {
+    /// Any bytes, from this seed.
+    Noise(u64),
+    /// As [`plane`] makes them from this seed; noise where it cannot.
+    Made(u64),
+    /// Each byte 0 or 255, from this seed.
+    Ends(u64),
+    /// Rows of 0 and rows of 255 in turn: the largest comb.
+    Stripes,
+    /// These bytes, then zeros.
+    Listed(Vec<u8>),
+}
+
+/// A failing input of at most so many bytes is printed byte by byte.
+const LISTED: usize = 64;
+
+impl Contents {
+    pub fn random(random: &mut Random) -> Self {
+        match random.below(8) {
+            0 | 1 => Self::Noise(random.next()),
+            2 => Self::Ends(random.next()),
+            3 => Self::Stripes,
+            _ => Self::Made(random.next()),
+        }
+    }
+
+    /// So many bytes. The layout is given where it is within the bounds.
+    pub fn bytes(&self, length: usize, stride: usize, layout: Option<&Layout>) -> Vec<u8> {
+        match self {
+            Self::Noise(seed) => Random::new(*seed).bytes(length),
+            Self::Made(seed) => {
+                let mut random = Random::new(*seed);
+                let mut bytes = layout.map_or(Vec::new(), |layout| plane(&mut random, layout));
+                bytes.truncate(length);
+                bytes.extend(random.bytes(length - bytes.len()));
+                bytes
+            }
+            Self::Ends(seed) => {
+                let mut bytes = Random::new(*seed).bytes(length);
+                for byte in &mut bytes {
+                    *byte = if *byte >= 128 { 255 } else { 0 };
+                }
+                bytes
+            }
+            Self::Stripes => {
+                let mut bytes = vec![0; length];
+                for row in bytes.chunks_mut(stride.max(1)).skip(1).step_by(2) {
+                    row.fill(255);
+                }
+                bytes
+            }
+            Self::Listed(bytes) => {
+                let mut bytes = bytes.clone();
+                bytes.resize(length, 0);
+                bytes
+            }
+        }
+    }
+
+    /// Simpler contents in place of these, which made `bytes`.
+    pub fn smaller(&self, bytes: &[u8]) -> Vec<Self> {
+        let Self::Listed(listed) = self else {
+            let mut found = vec![Self::Listed(Vec::new())];
+            if bytes.len() <= LISTED {
+                found.push(Self::Listed(bytes.to_vec()));
+            }
+            return found;
+        };
+        let mut found = Vec::new();
+        if listed.len() > bytes.len() {
+            found.push(Self::Listed(bytes.to_vec()));
+        }
+        if let Some((0, rest)) = listed.split_last() {
+            found.push(Self::Listed(rest.to_vec()));
+        }
+        for (at, byte) in listed.iter().enumerate() {
+            for smaller in smaller_numbers(u64::from(*byte)) {
+                let mut listed = listed.clone();
+                listed[at] = smaller as u8;
+                found.push(Self::Listed(listed));
+            }
+        }
+        found
+    }
+}
+
+/// A plane that is lent, with the shape that is said of it.
+#[derive(Clone)]
+pub struct Given {
+    pub shape: PlaneNumbers,
+    pub length: usize,
+    pub contents: Contents,
+    /// Made when first asked for: shrinking names many more than it tries.
+    sides: OnceCell<Sides>,
+}
+
+#[derive(Clone)]
+struct Sides {
+    rattle: Between,
+    rust: Plane,
+}
+
+impl fmt::Debug for Given {
+    fn fmt(&self, f: &mut fmt::Formatter<'_>) -> fmt::Result {
+        f.debug_struct("Given")
+            .field("shape", &self.shape)
+            .field("length", &self.length)
+            .field("contents", &self.contents)
+            .finish()
+    }
+}
+
+impl Given {
+    pub fn new(shape: PlaneNumbers, length: usize, contents: Contents) -> Self {
+        Self {
+            shape,
+            length,
+            contents,
+            sides: OnceCell::new(),
+        }
+    }
+
+    fn sides(&self) -> &Sides {
+        self.sides.get_or_init(|| {
+            let PlaneNumbers {
+                width,
+                height,
+                depth,
+                stride,
+                layout,
+            } = self.shape;
+            let components = judge::components(layout) as usize;
+            let within = judge::in_bounds(self.shape).then_some(Layout {
+                width: width as usize,
+                height: height as usize,
+                depth: depth as u8,
+                stride: stride as usize,
+                components,
+            });
+            let bytes = self
+                .contents
+                .bytes(self.length, stride as usize, within.as_ref());
+            Sides {
+                rattle: Between::noise(&bytes),
+                rust: Plane {
+                    data: bytes,
+                    stride: stride as usize,
+                    width: width as usize * components,
+                    height: height as usize,
+                },
+            }
+        })
+    }
+
+    /// The plane as it is lent to the desk.
+    pub fn lent(&self) -> &[u8] {
+        self.sides().rattle.lent()
+    }
+
+    /// The same plane as the Rust has it.
+    pub fn plane(&self) -> &Plane {
+        &self.sides().rust
+    }
+
+    /// Planes of smaller numbers, fewer bytes or simpler contents.
+    pub fn smaller(&self) -> Vec<Self> {
+        let mut found = Vec::new();
+        let short = self.length as i128 - i128::from(judge::needed(self.shape));
+        for shape in smaller_shapes(self.shape) {
+            // As long, or as much too short, as it was; then the bytes as they are.
+            let alike = i128::from(judge::needed(shape)) + short;
+            let lengths = [usize::try_from(alike).ok(), Some(self.length)];
+            for length in lengths.into_iter().flatten() {
+                if length <= self.length {
+                    found.push(Self::new(shape, length, self.contents.clone()));
+                }
+            }
+        }
+        for length in smaller_numbers(self.length as u64) {
+            found.push(Self::new(
+                self.shape,
+                length as usize,
+                self.contents.clone(),
+            ));
+        }
+        for contents in self.contents.smaller(&self.plane().data) {
+            found.push(Self::new(self.shape, self.length, contents));
+        }
+        found
+    }
+}
+
+/// Shapes of which one number is smaller; the stride follows a shorter row.
+fn smaller_shapes(shape: PlaneNumbers) -> Vec<PlaneNumbers> {
+    let numbers = |number: u32| {
+        smaller_numbers(u64::from(number))
+            .into_iter()
+            .map(|smaller| smaller as u32)
+    };
+    let mut found = Vec::new();
+    let mut add = |smaller: PlaneNumbers| {
+        let padding = i64::from(shape.stride) - judge::row(shape) as i64;
+        let stride = judge::row(smaller) as i64 + padding;
+        if (0..i64::from(shape.stride)).contains(&stride) {
+            found.push(PlaneNumbers {
+                stride: stride as u32,
+                ..smaller
+            });
+        }
+        found.push(smaller);
+    };
+    for height in numbers(shape.height) {
+        add(PlaneNumbers { height, ..shape });
+    }
+    for width in numbers(shape.width) {
+        add(PlaneNumbers { width, ..shape });
+    }
+    for depth in [8, 9].into_iter().chain(numbers(shape.depth)) {
+        if depth < shape.depth {
+            add(PlaneNumbers { depth, ..shape });
+        }
+    }
+    for layout in numbers(shape.layout) {
+        add(PlaneNumbers { layout, ..shape });
+    }
+    let row = u32::try_from(judge::row(shape)).unwrap_or(u32::MAX);
+    for stride in numbers(shape.stride.saturating_sub(row)).map(|padding| row + padding) {
+        found.push(PlaneNumbers { stride, ..shape });
+    }
+    for stride in numbers(shape.stride) {
+        found.push(PlaneNumbers { stride, ..shape });
+    }
+    found
+}
+
+/// A plane with at most so many samples in a row and so many rows: two in three
+/// within the bounds and long enough, the others at or past some bound.
+pub fn random(random: &mut Random, most_width: u32, most_height: u32, layouts: u32) -> Given {
+    let mut shape = PlaneNumbers {
+        width: random.between(1, most_width.into()) as u32,
+        height: random.between(1, most_height.into()) as u32,
+        depth: if random.one_in(4) {
+            8
+        } else {
+            random.between(9, 16) as u32
+        },
+        stride: 0,
+        layout: random.below(layouts.into()) as u32,
+    };
+    let mut padding = *random.pick(&[0, 0, 1, 2, 3, 7, 16, 61]);
+    let whole = !random.one_in(3);
+    if !whole {
+        for _ in 0..random.between(1, 2) {
+            match random.below(4) {
+                0 => shape.width = edge_of(random, shape.width, EDGES_OF_WIDTH),
+                1 => shape.height = edge_of(random, shape.height, EDGES_OF_HEIGHT),
+                2 => shape.depth = *random.pick(&[0, 7, 8, 16, 17, 255, 256, 264, u32::MAX]),
+                _ => padding = *random.pick(&[-1, -1, 0, 1]),
+            }
+        }
+    }
+    let row = judge::row(shape) as i64;
+    shape.stride = (row + padding).clamp(0, u32::MAX.into()) as u32;
+    if random.one_in(if whole { 100 } else { 8 }) {
+        // The largest stride; past it when something may be wrong.
+        let past = if whole { 0 } else { random.between(0, 2) };
+        shape.stride = *[65_536, 65_537, u32::MAX]
+            .get(past as usize)
+            .expect("0 to 2");
+        shape.height = shape.height.min(3);
+    }
+    if layouts > 1 && !whole && random.one_in(8) {
+        // Some of them would name a layout if they were cut to fewer bits.
+        shape.layout = *random.pick(&[4, 5, 255, 256, 258, 65_537, u32::MAX]);
+    }
+
+    let needed = judge::needed(shape);
+    let affordable = if random.one_in(16) { 1 << 20 } else { 1 << 14 };
+    let length = if needed > affordable && !(whole && shape.stride == 65_536) {
+        // Too large to be lent whole: too short.
+        random.between(0, 256)
+    } else if whole {
+        needed + random.pick(&[0, 0, 0, 1, 2, u64::from(shape.stride)])
+    } else {
+        let less = *random.pick(&[0, 0, 1, 1, 2, needed / 2, needed]);
+        needed.saturating_sub(less)
+    };
+    Given::new(shape, length as usize, Contents::random(random))
+}
+
+/// Around the bounds, and around the ends of 16 and of 32 bits.
+const EDGES_OF_WIDTH: &[u32] = &[0, 1, 2, 8191, 8192, 8193, 65_535, 65_536, u32::MAX];
+const EDGES_OF_HEIGHT: &[u32] = &[0, 1, 2, 4351, 4352, 4353, 65_535, 65_536, u32::MAX];
+
+/// One of the edges, or the size past 16 bits, which would be the size itself
+/// if it were cut to them.
+pub fn edge_of(random: &mut Random, size: u32, edges: &[u32]) -> u32 {
+    if random.one_in(10) {
+        65_536 + size
+    } else {
+        *random.pick(edges)
+    }
+}
+
+/// [`edge_of`] for a width and a height.
+pub fn at_an_edge(random: &mut Random, width: u32, height: u32) -> (u32, u32) {
+    if random.one_in(2) {
+        (edge_of(random, width, EDGES_OF_WIDTH), height)
+    } else {
+        (width, edge_of(random, height, EDGES_OF_HEIGHT))
+    }
+}

@@ -1,0 +1,47 @@
+//! `desk_at` against `Samples::at`, by the bits of the value.
+
+use oracle::video::filter::Samples;
+
+use super::read::{self, Asked};
+use crate::case::{Case, Difference, Failure, Least, Tally};
+use crate::judge;
+use crate::lent::one_place;
+use crate::random::Random;
+
+pub const NAME: &str = "at";
+
+/// Never inlined, so that the benchmark times a call on both sides.
+#[inline(never)]
+pub fn by_rust(samples: &Samples<'_>, x: i32, y: i32) -> f32 {
+    samples.at(x, y)
+}
+
+#[derive(Debug, Clone)]
+struct At(Asked);
+
+impl Case for At {
+    fn compare(&self) -> Result<u8, Difference> {
+        let Asked { given, x, y } = &self.0;
+        let (x, y) = (*x, *y);
+        let wanted = match judge::at(given.shape, given.length, x, y) {
+            0 => Ok(by_rust(&read::samples(given), x, y)),
+            number => Err(number),
+        };
+        one_place(
+            |value| desk::at(given.lent(), given.shape, x, y, value),
+            wanted,
+        )
+    }
+
+    fn smaller(&self) -> Vec<Self> {
+        self.0.smaller().into_iter().map(Self).collect()
+    }
+}
+
+pub fn run(random: &mut Random) -> Result<Tally, Failure> {
+    let least = Least {
+        accepted: 0,
+        refused: 0,
+    };
+    Tally::of(NAME, least, read::cases(random, 4).map(At))
+}

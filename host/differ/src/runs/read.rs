@@ -1,0 +1,195 @@
+//! What the runs of `at` and `code` share: one plane, many coordinates.
+
+use std::rc::Rc;
+
+use desk::PlaneNumbers;
+use oracle::video::filter::{Planes, Samples};
+
+use crate::case::smaller_numbers;
+use crate::given::{self, Contents, Given};
+use crate::judge;
+use crate::random::Random;
+
+/// The Rust's view of a plane within the bounds. The Rust itself makes the
+/// shift of a biplanar frame, so no formula of ours stands in for it.
+pub fn samples(given: &Given) -> Samples<'_> {
+    let plane = given.plane();
+    let depth = given.shape.depth as u8;
+    let biplanar = || Planes::biplanar(plane, plane, depth);
+    match given.shape.layout {
+        0 => Samples::new(plane, depth),
+        1 => biplanar().y,
+        2 => biplanar().cb,
+        3 => biplanar().cr,
+        other => unreachable!("the judge refuses layout {other}"),
+    }
+}
+
+/// A plane and the coordinates that are asked of it.
+#[derive(Debug, Clone)]
+pub struct Asked {
+    pub given: Rc<Given>,
+    pub x: i32,
+    pub y: i32,
+}
+
+impl Asked {
+    pub fn smaller(&self) -> Vec<Self> {
+        let mut found = Vec::new();
+        for y in nearer_to_nought(self.y) {
+            found.push(Self { y, ..self.clone() });
+        }
+        for x in nearer_to_nought(self.x) {
+            found.push(Self { x, ..self.clone() });
+        }
+        for given in self.given.smaller() {
+            let given = Rc::new(given);
+            found.push(Self { given, ..*self });
+        }
+        found
+    }
+}
+
+/// A negative number also leads to its opposite, never the other way.
+fn nearer_to_nought(number: i32) -> Vec<i32> {
+    let smaller = smaller_numbers(number.unsigned_abs().into()).into_iter();
+    if number >= 0 {
+        return smaller.map(|n| n as i32).collect();
+    }
+    let opposite = number.checked_neg();
+    smaller.map(|n| -(n as i32)).chain(opposite).collect()
+}
+
+/// All inputs of a run; of the random coordinates one in `outside_in` is picked
+/// outside or at an edge.
+pub fn cases(random: &mut Random, outside_in: u64) -> impl Iterator<Item = Asked> + use<> {
+    let mut own = || Random::new(random.next());
+    let tiny = every_tiny_plane(own());
+    let large = large_planes(own(), 2000, outside_in);
+    let others = random_planes(own(), 10_000, outside_in);
+    tiny.chain(large).chain(others)
+}
+
+/// The ends of what `at` takes, and of the type.
+const FAR: [i32; 6] = [-65_537, -65_536, 65_536, 65_537, i32::MIN, i32::MAX];
+
+/// Every plane of at most 3 by 3 samples, of four depths and every layout, with
+/// a stride of a row or one byte more, and a length that is exact, one short
+/// or one long; every coordinate from two before to two after it, and the far
+/// ones.
+fn every_tiny_plane(mut random: Random) -> impl Iterator<Item = Asked> {
+    let mut planes = Vec::new();
+    for width in 1..=3 {
+        for height in 1..=3 {
+            for layout in 0..4 {
+                for depth in [8, 9, 10, 16] {
+                    for padding in [0, 1] {
+                        let mut shape = PlaneNumbers {
+                            width,
+                            height,
+                            depth,
+                            stride: 0,
+                            layout,
+                        };
+                        shape.stride = judge::row(shape) as u32 + padding;
+                        let needed = judge::needed(shape) as usize;
+                        let contents = Contents::Noise(random.next());
+                        for length in needed - 1..=needed + 1 {
+                            planes.push(Given::new(shape, length, contents.clone()));
+                        }
+                    }
+                }
+            }
+        }
+    }
+    let around = |size: u32| (-2..=size as i32 + 1).chain(FAR);
+    planes.into_iter().flat_map(move |given| {
+        let given = Rc::new(given);
+        around(given.shape.height).flat_map(move |y| {
+            let given = given.clone();
+            around(given.shape.width).map(move |x| Asked {
+                given: given.clone(),
+                x,
+                y,
+            })
+        })
+    })
+}
+
+/// Coordinates asked of each random plane.
+const OF_EACH: u64 = 48;
+
+/// Random planes, `OF_EACH` coordinates of each.
+fn random_planes(mut random: Random, planes: u64, outside_in: u64) -> impl Iterator<Item = Asked> {
+    (0..planes).flat_map(move |_| {
+        let given = Rc::new(given::random(&mut random, 40, 12, 4));
+        asked_of(&mut random, given, OF_EACH, outside_in)
+    })
+}
+
+/// The largest planes of either kind, one with the largest stride, and two of
+/// usual sizes. Lent one after the other, as the largest has 35 million bytes.
+fn large_planes(mut random: Random, of_each: u64, outside_in: u64) -> impl Iterator<Item = Asked> {
+    LARGE.iter().flat_map(move |&(shape, cut)| {
+        let length = judge::needed(shape) as usize - cut;
+        let contents = Contents::Noise(random.next());
+        let given = Rc::new(Given::new(shape, length, contents));
+        asked_of(&mut random, given, of_each, outside_in)
+    })
+}
+
+/// Each with the bytes that it lacks.
+const LARGE: [(PlaneNumbers, usize); 8] = [
+    (numbers(8192, 4352, 8, 8192, 0), 0),
+    (numbers(8192, 256, 16, 65_536, 2), 0),
+    (numbers(8192, 256, 16, 65_536, 2), 1),
+    (numbers(8192, 3, 16, 65_536, 3), 0),
+    (numbers(8191, 5, 9, 32_765, 3), 0),
+    (numbers(1, 4352, 9, 3, 1), 0),
+    (numbers(1920, 1080, 10, 3840, 1), 0),
+    (numbers(720, 576, 8, 721, 0), 0),
+];
+
+const fn numbers(width: u32, height: u32, depth: u32, stride: u32, layout: u32) -> PlaneNumbers {
+    PlaneNumbers {
+        width,
+        height,
+        depth,
+        stride,
+        layout,
+    }
+}
+
+fn asked_of(
+    random: &mut Random,
+    given: Rc<Given>,
+    count: u64,
+    outside_in: u64,
+) -> impl Iterator<Item = Asked> + use<> {
+    let shape = given.shape;
+    let asked: Vec<_> = (0..count)
+        .map(|_| Asked {
+            given: given.clone(),
+            x: coordinate(random, shape.width, outside_in),
+            y: coordinate(random, shape.height, outside_in),
+        })
+        .collect();
+    asked.into_iter()
+}
+
+fn coordinate(random: &mut Random, size: u32, outside_in: u64) -> i32 {
+    // Past the far ends of the type there is nothing to ask.
+    let size = u64::from(size.min(i32::MAX as u32 - 2));
+    if size > 0 && !random.one_in(outside_in) {
+        return random.below(size) as i32;
+    }
+    let size = size as i32;
+    match random.below(8) {
+        0 | 1 => *random.pick(&[-2, -1, 0, 1]),
+        2 | 3 => *random.pick(&[size - 2, size - 1, size, size + 1]),
+        4 => *random.pick(&FAR),
+        5 => *random.pick(&[65_533, 65_534, 65_535, -65_535]),
+        6 => random.between(0, 2 * 65_536) as i32 - 65_536,
+        _ => random.next() as i32,
+    }
+}
