@@ -11,6 +11,7 @@ ghost use Rattle.colour.specs.Answer.{colouredNo, colouredValues, toRgbN
 
 // Offsets and gains are of values by the largest code of their depth. `luma_lift`, `chroma_cos` and
 // `chroma_sin` are 0, 1 and 0 where nothing is adjusted.
+#[repr(C)]
 pub struct Conversion {
     pub luma_offset: f32,
     pub luma_gain: f32,

@@ -2,4 +2,5 @@
 pub mod Fields
 pub mod Planes
 pub mod Combs
+pub mod Colours
 pub mod Claims

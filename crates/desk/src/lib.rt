@@ -2,6 +2,7 @@
 // plain names. Each answers with the number of document 01, "What the desk gets back"; a value goes
 // to a lent place, which a refusal leaves as it was. host/desk declares them for Rust, and its test
 // holds the declarations to these files. Assumes nothing.
+pub mod colours;
 pub mod combs;
 pub mod fields;
 pub mod planes;

@@ -116,9 +116,9 @@ pub refuses : {A : Type 0} {n m : ℕ} (y : A) → n ≡ m → (n ≡ 0 → ⊥)
 refuses {A} {n} {m} y e z = (e, subst (λ (k : ℕ). [] ≡ whenDone k y) e (simp (ne-eqb n 0 z)))
 
 -- ---- a call that hands on another's answer, whose number is n and whose values are `whenDone n y`
--- at 0 the value is written
-pub done-writes : {A : Type 0} {n : ℕ} {x : A} (y old : A) → 0 ≡ n → x ∷ [] ≡ whenDone n y → (0 ≡ n) × (x ≡ written n y old)
-done-writes {A} {n} {x} y old z e = (z, single x y (e ∙ ap (λ (k : ℕ). whenDone k y) (sym z)) ∙ ap (λ (k : ℕ). written k y old) z)
+-- at 0 the value is y
+pub done-equal : {A : Type 0} {n : ℕ} {x : A} (y : A) → 0 ≡ n → x ∷ [] ≡ whenDone n y → x ≡ y
+done-equal {A} {n} {x} y z e = single x y (e ∙ ap (λ (k : ℕ). whenDone k y) (sym z))
   where
     head-or : A → List A → A
     head-or a [] = a
@@ -126,6 +126,13 @@ done-writes {A} {n} {x} y old z e = (z, single x y (e ∙ ap (λ (k : ℕ). when
 
     single : (x y : A) → x ∷ [] ≡ y ∷ [] → x ≡ y
     single x y p = ap (head-or x) p
+
+-- and what is written is that
+pub written-done : {A : Type 0} {n : ℕ} {x : A} (y old : A) → 0 ≡ n → x ≡ y → x ≡ written n y old
+written-done {A} {n} {x} y old z e = e ∙ ap (λ (k : ℕ). written k y old) z
+
+pub done-writes : {A : Type 0} {n : ℕ} {x : A} (y old : A) → 0 ≡ n → x ∷ [] ≡ whenDone n y → (0 ≡ n) × (x ≡ written n y old)
+done-writes {A} {n} {x} y old z e = (z, written-done y old z (done-equal y z e))
 
 -- at another number what stood there stays
 pub refusal-keeps : {A B : Type 0} {m n : ℕ} (y : B) (new old : A) → m ≡ n → [] ≡ whenDone n y → (m ≡ n) × (old ≡ written n new old)
