@@ -11,11 +11,13 @@
 //! name, order and type of each parameter; a slice `name` is `name` and
 //! `name_len`.
 
+mod colours;
 mod combs;
 mod fields;
 mod planes;
 mod refusal;
 
+pub use colours::{Conversion, luma, luma_of, quantise, rgb_of, to_rgb};
 pub use combs::{comb, comb_of, comb_rgba, comb_rgba_of};
 pub use fields::{Parity, first_field, first_parity};
 pub use planes::{PlaneNumbers, at, code, code_of, value_of};

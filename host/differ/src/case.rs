@@ -218,10 +218,16 @@ pub fn smallest<C: Case>(case: C, difference: Difference) -> (C, Difference) {
     }
 }
 
-/// Numbers to try in place of a number, each smaller than it.
+/// Numbers to try in place of a number, each smaller than it: the least two,
+/// then ever closer to it, so that a threshold is found in few steps.
 pub fn smaller_numbers(number: u64) -> Vec<u64> {
-    let mut found: Vec<_> = [0, 1, number / 2, number.saturating_sub(1)]
+    let closer = (1..u64::BITS)
+        .map(|halvings| number >> halvings)
+        .take_while(|less| *less > 0)
+        .map(|less| number - less);
+    let mut found: Vec<_> = [0, 1]
         .into_iter()
+        .chain(closer)
         .filter(|smaller| *smaller < number)
         .collect();
     found.sort_unstable();

@@ -10,7 +10,6 @@ use oracle::mediadecoder::video::Plane;
 use crate::case::smaller_numbers;
 use crate::judge;
 use crate::lent::Between;
-use crate::plane::{Layout, plane};
 use crate::random::Random;
 
 /// How the bytes of an input are made.
@@ -18,8 +17,8 @@ use crate::random::Random;
 pub enum Contents {
     /// Any bytes, from this seed.
     Noise(u64),
-    /// As [`plane`] makes them from this seed; noise where it cannot.
-    Made(u64),
+    /// Codes within the depth, from this seed; noise where a code is a byte.
+    Within(u64),
     /// Each byte 0 or 255, from this seed.
     Ends(u64),
     /// Rows of 0 and rows of 255 in turn: the largest comb.
@@ -37,19 +36,24 @@ impl Contents {
             0 | 1 => Self::Noise(random.next()),
             2 => Self::Ends(random.next()),
             3 => Self::Stripes,
-            _ => Self::Made(random.next()),
+            _ => Self::Within(random.next()),
         }
     }
 
-    /// So many bytes. The layout is given where it is within the bounds.
-    pub fn bytes(&self, length: usize, stride: usize, layout: Option<&Layout>) -> Vec<u8> {
+    /// So many bytes, for a plane of this stride and depth.
+    pub fn bytes(&self, length: usize, stride: usize, depth: u32) -> Vec<u8> {
         match self {
             Self::Noise(seed) => Random::new(*seed).bytes(length),
-            Self::Made(seed) => {
-                let mut random = Random::new(*seed);
-                let mut bytes = layout.map_or(Vec::new(), |layout| plane(&mut random, layout));
-                bytes.truncate(length);
-                bytes.extend(random.bytes(length - bytes.len()));
+            Self::Within(seed) => {
+                let mut bytes = Random::new(*seed).bytes(length);
+                if let 9..16 = depth {
+                    let highest = (1 << (depth - 8)) - 1;
+                    for row in bytes.chunks_mut(stride.max(1)) {
+                        for high in row.iter_mut().skip(1).step_by(2) {
+                            *high &= highest;
+                        }
+                    }
+                }
                 bytes
             }
             Self::Ends(seed) => {
@@ -147,16 +151,7 @@ impl Given {
                 layout,
             } = self.shape;
             let components = judge::components(layout) as usize;
-            let within = judge::in_bounds(self.shape).then_some(Layout {
-                width: width as usize,
-                height: height as usize,
-                depth: depth as u8,
-                stride: stride as usize,
-                components,
-            });
-            let bytes = self
-                .contents
-                .bytes(self.length, stride as usize, within.as_ref());
+            let bytes = self.contents.bytes(self.length, stride as usize, depth);
             Sides {
                 rattle: Between::noise(&bytes),
                 rust: Plane {
@@ -279,11 +274,9 @@ pub fn random(random: &mut Random, most_width: u32, most_height: u32, layouts: u
     let row = judge::row(shape) as i64;
     shape.stride = (row + padding).clamp(0, u32::MAX.into()) as u32;
     if random.one_in(if whole { 100 } else { 8 }) {
-        // The largest stride; past it when something may be wrong.
-        let past = if whole { 0 } else { random.between(0, 2) };
-        shape.stride = *[65_536, 65_537, u32::MAX]
-            .get(past as usize)
-            .expect("0 to 2");
+        // The largest stride; past it where something may be wrong.
+        let strides = &[65_536, 65_537, u32::MAX];
+        shape.stride = *random.pick(if whole { &strides[..1] } else { strides });
         shape.height = shape.height.min(3);
     }
     if layouts > 1 && !whole && random.one_in(8) {
@@ -311,7 +304,7 @@ const EDGES_OF_HEIGHT: &[u32] = &[0, 1, 2, 4351, 4352, 4353, 65_535, 65_536, u32
 
 /// One of the edges, or the size past 16 bits, which would be the size itself
 /// if it were cut to them.
-pub fn edge_of(random: &mut Random, size: u32, edges: &[u32]) -> u32 {
+fn edge_of(random: &mut Random, size: u32, edges: &[u32]) -> u32 {
     if random.one_in(10) {
         65_536 + size
     } else {
@@ -319,7 +312,7 @@ pub fn edge_of(random: &mut Random, size: u32, edges: &[u32]) -> u32 {
     }
 }
 
-/// [`edge_of`] for a width and a height.
+/// A width and a height of which one is at an edge.
 pub fn at_an_edge(random: &mut Random, width: u32, height: u32) -> (u32, u32) {
     if random.one_in(2) {
         (edge_of(random, width, EDGES_OF_WIDTH), height)

@@ -126,7 +126,7 @@ pub fn one_place<T: Plain>(
         let given = call(&mut places[1]);
         // The compiler must not suppose that the call kept to its own place.
         let places = black_box(places);
-        same("the number", given, number)?;
+        same("the number, which is document 01's", given, number)?;
         let expected = [
             ("the place before the answer", was),
             match wanted {

@@ -4,7 +4,8 @@
 use std::hint::black_box;
 
 use differ::case::{Case, Difference, Failure, Least, Tally, same, smaller_numbers};
-use differ::lent::Guarded;
+use differ::given::{self, Contents, Given};
+use differ::lent::{Between, Guarded, one_place};
 use differ::plane::{Layout, cut, flipped, plane};
 use differ::random::{Random, read_seed};
 
@@ -74,6 +75,17 @@ fn wrong_code_is_caught_and_made_small() {
     assert!(text.contains("smallest input: Doubled"), "{text}");
     assert!(text.contains("Rattle: 601"), "{text}");
     assert!(text.contains("Rust:   600"), "{text}");
+}
+
+#[test]
+fn smaller_numbers_close_in_on_a_number() {
+    assert_eq!(smaller_numbers(0), []);
+    assert_eq!(smaller_numbers(1), [0]);
+    assert_eq!(smaller_numbers(2), [0, 1]);
+    assert_eq!(smaller_numbers(100), [0, 1, 50, 75, 88, 94, 97, 99]);
+    let of_most = smaller_numbers(u64::MAX);
+    assert_eq!(of_most.last(), Some(&(u64::MAX - 1)));
+    assert_eq!(of_most.len(), 65);
 }
 
 #[test]
@@ -186,6 +198,115 @@ fn floats_are_compared_by_their_bits() {
     let out = Guarded::<f32>::holding(1, &[0.0, f32::NAN]);
     assert_eq!(out.written(&[0.0, f32::NAN]), Ok(()));
     assert!(out.written(&[-0.0, f32::NAN]).is_err());
+}
+
+/// Answers with `number` after it wrote `written` `offset` places off its own.
+fn writing(number: u8, written: f32, offset: isize) -> impl Fn(&mut f32) -> u8 {
+    move |place| {
+        let place = black_box(std::ptr::from_mut(place));
+        // SAFETY: none by the rules of references, which is the point; the
+        // places beside the lent one are there, and are looked at afterwards.
+        unsafe { *place.offset(offset) = written };
+        number
+    }
+}
+
+#[test]
+fn one_lent_place_is_compared_with_those_beside_it() {
+    assert_eq!(one_place(writing(0, 0.5, 0), Ok(0.5)), Ok(0));
+    assert_eq!(one_place(|_: &mut f32| 4, Err(4)), Ok(4));
+    let pattern = f32::from_bits(0x5555_5555);
+    let trials = [
+        (writing(0, 0.5, 0), Ok(0.25), "the answer"),
+        (writing(0, -0.0, 0), Ok(0.0), "the answer"),
+        (writing(3, 0.5, 0), Ok(0.5), "the number"),
+        (writing(0, 0.5, 0), Err(3), "the number"),
+        (writing(4, 0.5, 0), Err(4), "the lent place, which was not"),
+        // What is written is what one of the patterns has there already.
+        (
+            writing(4, pattern, 0),
+            Err(4),
+            "the lent place, which was not",
+        ),
+        (writing(4, 0.5, -1), Err(4), "the place before"),
+        (writing(4, 0.5, 1), Err(4), "the place after"),
+    ];
+    for (call, wanted, says) in trials {
+        let difference = one_place(call, wanted).expect_err(says);
+        assert!(difference.what.contains(says), "{difference:?}");
+    }
+}
+
+#[test]
+fn what_is_lent_for_reading_stands_between_noise() {
+    for length in [0, 1, 15, 16, 1000] {
+        let bytes = Random::new(5).bytes(length);
+        assert_eq!(Between::noise(&bytes).lent(), bytes);
+    }
+}
+
+/// Goes wrong at a depth above 8, in a layout that is not planar, with a byte
+/// above 99 anywhere but among the first four.
+#[derive(Debug, Clone)]
+struct Misread(Given);
+
+impl Case for Misread {
+    fn compare(&self) -> Result<u8, Difference> {
+        let (plane, shape) = (self.0.plane(), self.0.shape);
+        assert_eq!(self.0.lent(), plane.data);
+        let high = plane.data.iter().skip(4).any(|byte| *byte > 99);
+        let wrong = high && shape.depth > 8 && shape.layout > 0;
+        same("the reading", wrong, false)?;
+        Ok(0)
+    }
+
+    fn smaller(&self) -> Vec<Self> {
+        self.0.smaller().into_iter().map(Self).collect()
+    }
+}
+
+#[test]
+fn a_misread_plane_is_made_small() {
+    let mut random = Random::new(6);
+    let mut found = 0;
+    for _ in 0..15 {
+        let case = Misread(given::random(&mut random, 10, 4, 4));
+        let Err(difference) = case.compare() else {
+            continue;
+        };
+        found += 1;
+        let (Misread(least), _) = differ::case::smallest(case, difference);
+        let text = format!("{least:?}");
+        let shape = least.shape;
+        let numbers = (shape.width, shape.height, shape.depth, shape.layout);
+        assert_eq!(numbers, (0, 0, 9, 1), "{text}");
+        // Noise may be low at first; then a few more bytes stay.
+        assert!((5..20).contains(&least.length), "{text}");
+        let mut bytes = vec![0; least.length];
+        bytes[least.length - 1] = 100;
+        assert_eq!(least.contents, Contents::Listed(bytes), "{text}");
+    }
+    assert!(found > 2, "only {found} were misread");
+}
+
+#[test]
+fn contents_have_the_length_asked_for() {
+    let all = |contents: Contents| contents.bytes(7, 3, 10);
+    assert_eq!(all(Contents::Stripes), [0, 0, 0, 255, 255, 255, 0]);
+    assert_eq!(all(Contents::Listed(vec![9])), [9, 0, 0, 0, 0, 0, 0]);
+    assert_eq!(all(Contents::Noise(1)).len(), 7);
+    assert!(
+        all(Contents::Ends(1))
+            .iter()
+            .all(|byte| [0, 255].contains(byte))
+    );
+    let within = Contents::Within(1).bytes(3000, 3, 10);
+    assert!(within.chunks(3).all(|row| row[1] < 4));
+    assert!(within.iter().any(|byte| *byte > 3));
+    // At 16 bits every code is within the depth, and at 8 every byte.
+    let noise = Contents::Noise(1).bytes(50, 3, 16);
+    assert_eq!(Contents::Within(1).bytes(50, 3, 16), noise);
+    assert_eq!(Contents::Within(1).bytes(50, 3, 8), noise);
 }
 
 #[test]

@@ -40,8 +40,8 @@ impl Case for At {
 
 pub fn run(random: &mut Random) -> Result<Tally, Failure> {
     let least = Least {
-        accepted: 0,
-        refused: 0,
+        accepted: 600_000,
+        refused: 430_000,
     };
     Tally::of(NAME, least, read::cases(random, 4).map(At))
 }

@@ -36,8 +36,8 @@ impl Case for Code {
 
 pub fn run(random: &mut Random) -> Result<Tally, Failure> {
     let least = Least {
-        accepted: 0,
-        refused: 0,
+        accepted: 520_000,
+        refused: 510_000,
     };
     Tally::of(NAME, least, read::cases(random, 8).map(Code))
 }

@@ -78,10 +78,10 @@ pub fn run(random: &mut Random) -> Result<Tally, Failure> {
             Given::new(shape, length, contents)
         })
         .collect();
-    let others = (0..14_000).map(|_| given::random(random, 70, 12, 1));
+    let others = (0..20_000).map(|_| given::random(random, 70, 12, 1));
     let least = Least {
-        accepted: 0,
-        refused: 0,
+        accepted: 13_000,
+        refused: 5_500,
     };
     Tally::of(NAME, least, large.into_iter().chain(others).map(Combed))
 }

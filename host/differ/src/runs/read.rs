@@ -66,7 +66,7 @@ pub fn cases(random: &mut Random, outside_in: u64) -> impl Iterator<Item = Asked
     let mut own = || Random::new(random.next());
     let tiny = every_tiny_plane(own());
     let large = large_planes(own(), 2000, outside_in);
-    let others = random_planes(own(), 10_000, outside_in);
+    let others = random_planes(own(), 20_000, outside_in);
     tiny.chain(large).chain(others)
 }
 
