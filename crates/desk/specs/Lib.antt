@@ -2,5 +2,6 @@
 pub mod Fields
 pub mod Planes
 pub mod Combs
+pub mod Filters
 pub mod Colours
 pub mod Claims

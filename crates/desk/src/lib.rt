@@ -5,4 +5,5 @@
 pub mod colours;
 pub mod combs;
 pub mod fields;
+pub mod filters;
 pub mod planes;

@@ -1,0 +1,82 @@
+-- `desk::filters::desk_edge` meets its contract: the layout's code is tested here, and the rest is `filter::edge`'s own answer. Assumes nothing.
+use borrow.Author.Needs.{needs}
+use borrow.Author.Tests.{le-leb, lt-leb}
+use mathlib.Core.Path.{_≡_, refl, sym, ap, subst, _∙_}
+use Prim.Native.Nat.{ℕ, suc, _≤_, _<_}
+use native.Mathlib.Nat.{lt-of-le-of-lt, lt-of-lt-of-le, lt-trans}
+use native.Mathlib.Omega.{arith}
+use lib.Dec.{lit<}
+use lib.IntN.{ℤ, pos, negsuc, natAbs}
+use mir.Syntax.{w32}
+use mir.Val.{SFits}
+use lib.ListN.{length}
+use denote.Ref.{now}
+use mir.Facts.{toZ-ofZ}
+use Rattle.laws.specs.Refusal.{lowest, written}
+use Rattle.laws.proofs.Refusal.{handed-value, handed-refusal, number-behind}
+use Rattle.plane.specs.Plane.{valueOf}
+use Rattle.filter.specs.Filter.{edgeOf}
+use Rattle.filter.proofs.Claims.{edge-in-reach}
+use Rattle.desk.specs.Planes.{shapeNamed}
+use Rattle.desk.specs.Filters.{edgeNo}
+use Rattle.filter.specs.Answer.{edgedNo, edgedValues, edgeTests}
+use Rattle.desk.proofs.filters.desk_edge.Statement.{statement}
+use Rattle.desk.proofs.filters.desk_edge.Tie as tie
+
+returns : tie.Need-returns
+unfolding lowest
+returns c = simp (lt-leb _ _ (c .if1 .taken)) (refl, refl)
+
+shape-named-requires : tie.Need-shape-named-requires
+shape-named-requires c κs = search needs
+
+edge-requires : tie.Need-edge-requires
+edge-requires c κs = search needs
+
+enum-known-found : tie.Need-enum-known-found
+enum-known-found c = search needs
+
+enum-known-no : tie.Need-enum-known-no
+enum-known-no c = search needs
+
+-- a slant from -2 to 2 fits its place
+small : (j : ℤ) → natAbs j ≤ 2 → SFits w32 j
+small (pos n) h = record { sfits = lt-of-le-of-lt h (lit< tt) }
+small (negsuc n) h =
+    let k : n < 2147483648 = omega arith in
+    record { sfits = k }
+
+handed : (d : tie.After-known-told) →
+    let a = d .before .before .before .before .before .before .before .before .args in
+    (0 ≡ edgeNo (a .shape) (length (now (a .cur))) (a .x) (a .y))
+    × (d .before .found .given .0 .0 ≡ written (edgeNo (a .shape) (length (now (a .cur))) (a .x) (a .y)) (edgeOf (valueOf (now (a .cur)) (shapeNamed (a .shape))) (a .x) (a .y)) (now (a .slant)))
+handed d =
+    let c = d .before .before .before in
+    let a = c .before .before .before .before .before .args in
+    let f = c .before .before .before .before .before .fits in
+    handed-value edgedNo edgedValues (d .before .found .given .1)
+    (number-behind 3 (le-leb _ _ (c .before .before .if1 .left))
+    (λ i. edgeTests (c .before .shape-named .ensures i) (length (now (a .cur))) (toZ-ofZ (f .x) i) (toZ-ofZ (f .y) i)))
+    (λ i. edgeOf (valueOf (now (a .cur)) (c .before .shape-named .ensures i)) (toZ-ofZ (f .x) i) (toZ-ofZ (f .y) i))
+    _ refl refl (c .edge .ensures .0) (c .edge .ensures .1)
+
+returns-2 : tie.Need-returns-2
+returns-2 d =
+    let a = d .before .before .before .before .before .before .before .before .args in
+    let h = handed d in
+    let same = h .1 ∙ ap (λ (k : ℕ). written k (edgeOf (valueOf (now (a .cur)) (shapeNamed (a .shape))) (a .x) (a .y)) (now (a .slant))) (sym (h .0)) in
+    (h .0, toZ-ofZ (subst (SFits w32) (sym same) (small _ (edge-in-reach (valueOf (now (a .cur)) (shapeNamed (a .shape))) (a .x) (a .y)))) ∙ h .1)
+
+returns-3 : tie.Need-returns-3
+returns-3 d =
+    let c = d .before .before .before in
+    let a = c .before .before .before .before .before .args in
+    let f = c .before .before .before .before .before .fits in
+    handed-refusal edgedNo edgedValues (d .before .no .given .1)
+    (number-behind 3 (le-leb _ _ (c .before .before .if1 .left))
+    (λ i. edgeTests (c .before .shape-named .ensures i) (length (now (a .cur))) (toZ-ofZ (f .x) i) (toZ-ofZ (f .y) i)))
+    (λ i. edgeOf (valueOf (now (a .cur)) (c .before .shape-named .ensures i)) (toZ-ofZ (f .x) i) (toZ-ofZ (f .y) i))
+    _ _ refl refl (c .edge .ensures .0) (c .edge .ensures .1)
+
+pub desk-edge-spec : {M : Type 1} → statement M
+desk-edge-spec = tie.close (tie.spec returns shape-named-requires edge-requires enum-known-found enum-known-no returns-2 returns-3)

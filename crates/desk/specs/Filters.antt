@@ -1,0 +1,33 @@
+-- The rows a field lacks, by number (document 01, "Rows a field lacks"). Assumes nothing.
+use Prim.Native.Nat.{ℕ}
+use mathlib.Core.Bool.{Bool, cond, _&&_}
+use mathlib.Core.List.{List, [], _∷_}
+use lib.Dec.{leb, eqb}
+use lib.IntN.{ℤ}
+use Rattle.laws.specs.Refusal.{lowest}
+use Rattle.filter.specs.declared.Quality.{Quality}
+use Rattle.filter.specs.declared.Quality.the-variants.{Weave, Bob, Yadif, Bwdif}
+use Rattle.filter.specs.declared.Rows.{Rows}
+use Rattle.filter.specs.Answer.{edgeTests, sampleTests}
+use Rattle.desk.specs.declared.planes.PlaneNumbers.{PlaneNumbers}
+use Rattle.desk.specs.Planes.{shapeNamed, named}
+
+-- 0 Weave, 1 Bob, 2 Yadif, 3 Bwdif; another code names nothing
+abbrev pub qualityNamed : ℕ → Quality
+qualityNamed code = cond (eqb code 0) Weave (cond (eqb code 1) Bob (cond (eqb code 2) Yadif Bwdif))
+
+abbrev pub rowsNamed : ℕ → ℕ → Rows
+rowsNamed first mate = record { first = first; mate = mate }
+
+abbrev pub edgeNo : PlaneNumbers → ℕ → ℤ → ℤ → ℕ
+edgeNo n bytes x y = lowest (named (n .layout) (edgeTests (shapeNamed n) bytes x y))
+
+-- 3 also where the quality's code or a layout's names nothing
+abbrev pub allNamed : ℕ → PlaneNumbers → PlaneNumbers → PlaneNumbers → Bool
+allNamed quality before cur after = leb quality 3 && leb (before .layout) 3 && leb (cur .layout) 3 && leb (after .layout) 3
+
+abbrev pub sampleNo : ℕ → Rows → PlaneNumbers → ℕ → PlaneNumbers → ℕ → PlaneNumbers → ℕ → ℤ → ℤ → ℕ
+sampleNo quality rows before before-bytes cur cur-bytes after after-bytes x y =
+    lowest
+    ((3, allNamed quality before cur after)
+    ∷ sampleTests rows (shapeNamed before) before-bytes (shapeNamed cur) cur-bytes (shapeNamed after) after-bytes x y)

@@ -1,0 +1,142 @@
+-- How large the values are on the way to a made row, from samplers whose values are at most 2 ^ 16 in size: every value is finite, so the
+-- last clamp brings it into 0..1, and the ends of the clamp before it are in order. Assumes nothing.
+use Prim.Native.Nat.{ℕ, _+_, _*_, _^_, _≤_, _<_, min, max}
+use mathlib.Core.Path.{_≡_}
+use mathlib.Core.Bool.{Bool, true, false, cond, true≢false}
+use mathlib.Core.List.{List}
+use native.Mathlib.Nat.{le-trans, div-le-self}
+use native.Mathlib.Omega.{arith}
+use lib.Dec.{T, leb, lit≤}
+use lib.IntN.{ℤ, _+ℤ_, _-ℤ_}
+use lib.ListN.{getD}
+use lib.Pow.{pow-mono}
+use lib.Ieee.{Float, binary32, add, sub, le, ofBits}
+use Rattle.float.specs.Bounds.{Small, Away, NotNegative, Unit}
+use Rattle.float.proofs.Small.{small-abs, small-min, small-max, small-clamp, small-add, small-sub, small-mul, small-div, small-more, small-zero, small-finite, small-whole, away-whole}
+use Rattle.float.proofs.Range.{not-negative-zero, not-negative-max, unit-clamp}
+use Rattle.float.proofs.Ends.{ends-in-order}
+use Rattle.plane.specs.declared.Shape.{Shape}
+use Rattle.plane.specs.Plane.{startOf, storedAt, codeOf, fullCode, valueOf}
+use Rattle.filter.specs.declared.Quality.{Quality}
+use Rattle.filter.specs.declared.Quality.the-variants.{Weave, Bob, Yadif, Bwdif}
+use Rattle.filter.specs.Filter.{Sampler, one, halfF, nineF, sixteenF, gapOf, bobOf, averageOf, changesOf, outsideOf, movedOf, heldOf, inMotionOf, nearOf, farOf, yadifOf, cubicOf, bwdifOf, madeOf, edgeOf}
+use Rattle.filter.specs.Rows.{weaves}
+use Rattle.filter.specs.Claims.{Readable, averageAt, movedAt}
+
+-- ---- numbers
+small-half : Small 0 halfF
+unfolding ofBits
+small-half = record { bound = lit≤ tt }
+
+small-nine : Small 4 nineF
+unfolding ofBits
+small-nine = record { bound = lit≤ tt }
+
+away-sixteen : Away 0 sixteenF
+unfolding ofBits
+away-sixteen = record { bound = lit≤ tt }
+
+-- ---- of values
+small-gap : {a b : Float} → Small 16 a → Small 16 b → Small 17 (gapOf a b)
+unfolding gapOf
+small-gap p q = small-abs (small-sub p q tt)
+
+small-average : {before after : Float} → Small 16 before → Small 16 after → Small 17 (averageOf before after)
+unfolding averageOf
+small-average p q = small-mul (small-add p q tt) small-half tt
+
+small-outside : {average c e : Float} → Small 17 average → Small 16 c → Small 16 e → Small 18 (outsideOf average c e)
+unfolding outsideOf
+small-outside p q r =
+    small-max (small-max (small-sub (small-more 17 (small-min q r) tt) p tt) (small-sub p (small-more 17 (small-max q r) tt) tt)) (small-more 18 small-zero tt)
+
+outside-not-negative : (average c e : Float) → NotNegative (outsideOf average c e)
+unfolding outsideOf
+outside-not-negative average c e = not-negative-max _ not-negative-zero
+
+held-in-unit : {along average moved : Float} → Small 24 along → Small 17 average → Small 18 moved → Unit (heldOf along average moved)
+unfolding heldOf
+held-in-unit p q r =
+    unit-clamp _
+    (small-finite (small-clamp (small-more 25 p tt) (small-more 25 (small-sub (small-more 18 q tt) r tt) tt) (small-more 25 (small-add (small-more 18 q tt) r tt) tt)))
+
+small-cubic : {near far : Float} → Small 17 near → Small 17 far → Small 24 (cubicOf near far)
+unfolding cubicOf
+small-cubic p q = small-more 24 (small-div (small-sub (small-mul small-nine p tt) (small-more 21 q tt) tt) away-sixteen tt) tt
+
+-- ---- of samplers
+module _ (before cur after : Sampler) (b : Readable before) (c : Readable cur) (a : Readable after) (x y : ℤ) where
+  small-moved : Small 18 (movedAt before cur after x y)
+  unfolding changesOf movedOf
+  small-moved =
+      let up = y -ℤ one in
+      let down = y +ℤ one in
+      let above = small-max (small-gap (b x up) (c x up)) (small-gap (a x up) (c x up)) in
+      let below = small-max (small-gap (b x down) (c x down)) (small-gap (a x down) (c x down)) in
+      let changes = small-max (small-max (small-gap (b x y) (a x y)) above) below in
+      small-max (small-more 18 (small-mul changes small-half tt) tt) (small-outside (small-average (b x y) (a x y)) (c x up) (c x down))
+
+  moved-not-negative : NotNegative (movedAt before cur after x y)
+  unfolding movedOf
+  moved-not-negative = not-negative-max _ (outside-not-negative _ _ _)
+
+  pub ends-ordered :
+      T (le (sub binary32 (averageAt before after x y) (movedAt before cur after x y)) (add binary32 (averageAt before after x y) (movedAt before cur after x y)))
+  ends-ordered = ends-in-order _ _ (small-finite (small-average (b x y) (a x y))) (small-finite small-moved) moved-not-negative
+
+  in-motion-in-unit : (along : Float) → Small 24 along → Unit (inMotionOf before cur after x y along)
+  unfolding inMotionOf
+  in-motion-in-unit along p = held-in-unit p (small-average (b x y) (a x y)) small-moved
+
+  small-near : (j : ℤ) → Small 17 (nearOf cur x y j)
+  unfolding nearOf
+  small-near j = small-add (c _ _) (c _ _) tt
+
+  small-far : (j : ℤ) → Small 17 (farOf cur x y j)
+  unfolding farOf
+  small-far j = small-add (c _ _) (c _ _) tt
+
+  bob-in-unit : Unit (bobOf cur x y)
+  unfolding bobOf
+  bob-in-unit = unit-clamp _ (small-finite (small-mul (small-add (c x (y -ℤ one)) (c x (y +ℤ one)) tt) small-half tt))
+
+  yadif-in-unit : Unit (yadifOf before cur after x y)
+  unfolding yadifOf
+  yadif-in-unit = in-motion-in-unit _ (small-more 24 (small-mul (small-near (edgeOf cur x y)) small-half tt) tt)
+
+  bwdif-in-unit : Unit (bwdifOf before cur after x y)
+  unfolding bwdifOf
+  bwdif-in-unit = in-motion-in-unit _ (small-cubic (small-near (edgeOf cur x y)) (small-far (edgeOf cur x y)))
+
+  pub made-in-unit : (quality : Quality) → weaves quality ≡ false → Unit (madeOf quality before cur after x y)
+  unfolding madeOf
+  made-in-unit Weave w = absurd (true≢false w)
+  made-in-unit Bob w = bob-in-unit
+  made-in-unit Yadif w = yadif-in-unit
+  made-in-unit Bwdif w = bwdif-in-unit
+
+-- ---- of a plane
+stored-small : (bytes : List ℕ) → ((i : ℕ) → getD bytes i 0 < 256) → (depth i : ℕ) → storedAt bytes depth i ≤ 2 ^ 16
+stored-small bytes h depth i = go (leb depth 8)
+  where
+    go : (b : Bool) → cond b (getD bytes i 0) (getD bytes i 0 + 256 * getD bytes (i + 1) 0) ≤ 2 ^ 16
+    go true = omega (arith, h i)
+    go false = omega (arith, h i, h (i + 1))
+
+depths : (depth : ℕ) → (8 ≤ max 8 (min depth 16)) × (max 8 (min depth 16) ≤ 16)
+depths depth = (omega arith, omega arith)
+
+full-least : (depth : ℕ) → 0 < fullCode depth
+full-least depth = omega (arith, pow-mono (depths depth .0))
+
+full-most : (depth : ℕ) → fullCode depth ≤ 2 ^ 24
+full-most depth = omega (arith, pow-mono (depths depth .1))
+
+code-small : (bytes : List ℕ) (s : Shape) → ((i : ℕ) → getD bytes i 0 < 256) → (x y : ℕ) → codeOf bytes s x y ≤ 2 ^ 16
+unfolding codeOf
+code-small bytes s h x y = le-trans (div-le-self _ _) (stored-small bytes h (s .depth) (startOf s x y))
+
+pub plane-is-readable : (bytes : List ℕ) (s : Shape) → ((i : ℕ) → getD bytes i 0 < 256) → Readable (valueOf bytes s)
+unfolding valueOf
+plane-is-readable bytes s h x y =
+    small-div (small-whole 16 _ (code-small bytes s h _ _) tt) (away-whole _ (full-least (s .depth)) (full-most (s .depth))) tt

@@ -1,0 +1,25 @@
+-- `filter::outside_of` meets its contract. Assumes nothing.
+use Rattle.filter.specs.Filter.{outsideOf}
+use borrow.Author.Needs.{needs}
+use Rattle.filter.proofs.outside_of.Statement.{statement}
+use Rattle.filter.proofs.outside_of.Tie as tie
+
+min-requires : tie.Need-min-requires
+min-requires c κs = search needs
+
+max-requires : tie.Need-max-requires
+max-requires c κs = search needs
+
+max-requires-2 : tie.Need-max-requires-2
+max-requires-2 c κs = search needs
+
+max-requires-3 : tie.Need-max-requires-3
+max-requires-3 c κs = search needs
+
+returns : tie.Need-returns
+unfolding outsideOf
+returns c = cc
+
+pub outside-of-spec : {M : Type 1} → statement M
+outside-of-spec =
+    tie.close (tie.spec min-requires max-requires max-requires-2 max-requires-3 returns)

@@ -1,0 +1,29 @@
+-- Which rows are shown (document 01, "Rows a field lacks" and "Colour and comb": no field means first 0, no mate means 2). Assumes nothing.
+use Prim.Native.Nat.{ℕ}
+use mathlib.Core.Bool.{Bool, true, false}
+use Rattle.field.specs.declared.Output.{Output}
+use Rattle.field.specs.declared.Chosen.{Chosen}
+use Rattle.field.specs.declared.Chosen.the-variants as chosen
+use Rattle.field.specs.Field.{firstRowOf}
+use Rattle.filter.specs.declared.Quality.{Quality}
+use Rattle.filter.specs.declared.Quality.the-variants.{Weave, Bob, Yadif, Bwdif}
+use Rattle.filter.specs.declared.Rows.{Rows}
+
+-- Weave takes both fields as they stand, and the others make the rows that one lacks.
+abbrev pub weaves : Quality → Bool
+weaves Weave = true
+weaves Bob = false
+weaves Yadif = false
+weaves Bwdif = false
+
+-- the first row of the field that was chosen, and another number where neither was
+abbrev pub firstRowOr : Chosen → ℕ → ℕ
+firstRowOr (chosen.Field parity) none = firstRowOf parity
+firstRowOr chosen.Neither none = none
+
+abbrev pub rowsOf : Output → Rows
+rowsOf output = record { first = firstRowOr (output .field) 0; mate = firstRowOr (output .weave) 2 }
+
+-- one field alone
+abbrev pub fieldRowsOf : ℕ → Rows
+fieldRowsOf first = record { first = first; mate = 2 }

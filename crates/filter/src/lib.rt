@@ -1,0 +1,544 @@
+// Copyright 2026 Till0196
+// SPDX-License-Identifier: Apache-2.0
+// Carried over from core/src/output/video/filter.rs (`sample`, `edge`, `Rows`), and changed: a plane is a
+// lent slice beside its shape, closures are functions, and what is out of bounds is refused by number.
+//
+// The rows a field lacks, sample by sample. Assumes nothing.
+ghost use mathlib.Core.Path.{_≡_};
+ghost use Prim.Native.Nat.{_≤_};
+ghost use lib.IntN.{natAbs};
+ghost use lib.ListN.{length};
+ghost use Rattle.laws.specs.Refusal.{whenDone};
+ghost use Rattle.plane.specs.Plane.{valueOf};
+ghost use Rattle.plane.specs.Coordinates.{parityOf, unbiased};
+ghost use Rattle.plane.specs.Answer.{sampledNo, sampledValues};
+ghost use Rattle.filter.specs.Filter.{gapOf, bobOf, averageOf, changesOf, outsideOf, movedOf, heldOf, inMotionOf, acrossOf, scoreOf, slantedOf, betterOf, edgeOf, nearOf, farOf, yadifOf, cubicOf, bwdifOf, madeOf, sampleOf};
+ghost use Rattle.filter.specs.Rows.{weaves, firstRowOr, rowsOf, fieldRowsOf};
+ghost use Rattle.filter.specs.Held.{Room, step, seen};
+ghost use Rattle.filter.specs.Answer.{edgedNo, edgedValues, edgeNo, sampleNo};
+
+// How missing rows are made. Weave makes none: it takes both fields as they stand.
+pub enum Quality {
+    Weave,
+    Bob,
+    Yadif,
+    Bwdif,
+}
+
+// The rows that are shown of `cur`, 0 or 1, and those that Weave takes from `before`, 0 or 1, or 2 for none.
+pub struct Rows {
+    pub first: u32,
+    pub mate: u32,
+}
+
+// A row is even or odd, so 2 is none.
+const NO_MATE: u32 = 2;
+
+fn first_row_or(chosen: field::Chosen, none: u32) -> u32
+    ensures { λ r. ⌜ r ≡ firstRowOr chosen none ⌝ }
+{
+    match chosen {
+        field::Chosen::Field(parity) => parity.first_row(),
+        field::Chosen::Neither => none,
+    }
+}
+
+impl Rows {
+    pub fn of(output: field::Output) -> Rows
+        ensures { λ r. ⌜ r ≡ rowsOf output ⌝ }
+    {
+        let shown = output.field;
+        let mate = output.weave;
+        Rows {
+            first: first_row_or(shown, 0),
+            mate: first_row_or(mate, NO_MATE),
+        }
+    }
+
+    // Those of one field alone.
+    pub fn field(first_row: u32) -> Rows
+        ensures { λ r. ⌜ r ≡ fieldRowsOf «first_row» ⌝ }
+    {
+        Rows {
+            first: first_row,
+            mate: NO_MATE,
+        }
+    }
+}
+
+pub enum Edged {
+    Slant(i32),
+    Refused(u8),
+}
+
+// By how much a slant has to match better than straight up and down, so that one that matches by chance
+// does not spoil what is flat.
+const SLANT_BIAS: f32 = 0.002;
+
+fn gap(a: f32, b: f32) -> f32
+    ensures { λ r. ⌜ r ≡ gapOf a b ⌝ }
+{
+    float::abs(a - b)
+}
+
+fn bob(cur: &[u8], s: plane::Shape, x: u32, y: u32) -> f32
+    requires { ⌜ Room y ⌝ }
+    ensures { λ r. ⌜ r ≡ bobOf (valueOf (now (cur .entry)) s) (unbiased x) (unbiased y) ⌝ }
+{
+    let above = plane::value_at(cur, s, x, y - 1);
+    let below = plane::value_at(cur, s, x, y + 1);
+    float::clamp((above + below) * 0.5, 0.0, 1.0)
+}
+
+// ---- Motion: what the fields before and after tell of a missing row. Where nothing moves, their average
+// is the row. Else the value may lie as far from it as something moved, and in any case far enough to
+// come between the rows above and below.
+
+fn average_of(before: f32, after: f32) -> f32
+    ensures { λ r. ⌜ r ≡ averageOf before after ⌝ }
+{
+    (before + after) * 0.5
+}
+
+fn changes_of(
+    before: f32,
+    after: f32,
+    before_up: f32,
+    after_up: f32,
+    before_down: f32,
+    after_down: f32,
+    c: f32,
+    e: f32,
+) -> f32
+    ensures { λ r. ⌜ r ≡ changesOf before after «before_up» «after_up» «before_down» «after_down» c e ⌝ }
+{
+    let change = gap(before, after);
+    let above = float::max(gap(before_up, c), gap(after_up, c));
+    let below = float::max(gap(before_down, e), gap(after_down, e));
+    float::max(float::max(change, above), below)
+}
+
+fn outside_of(average: f32, c: f32, e: f32) -> f32
+    ensures { λ r. ⌜ r ≡ outsideOf average c e ⌝ }
+{
+    let under = float::min(c, e) - average;
+    let over = average - float::max(c, e);
+    float::max(float::max(under, over), 0.0)
+}
+
+fn moved_of(
+    before: f32,
+    after: f32,
+    before_up: f32,
+    after_up: f32,
+    before_down: f32,
+    after_down: f32,
+    c: f32,
+    e: f32,
+) -> f32
+    ensures { λ r. ⌜ r ≡ movedOf before after «before_up» «after_up» «before_down» «after_down» c e ⌝ }
+{
+    let changes = changes_of(
+        before,
+        after,
+        before_up,
+        after_up,
+        before_down,
+        after_down,
+        c,
+        e,
+    );
+    float::max(changes * 0.5, outside_of(average_of(before, after), c, e))
+}
+
+fn hold(along: f32, average: f32, moved: f32) -> f32
+    ensures { λ r. ⌜ r ≡ heldOf along average moved ⌝ }
+{
+    float::clamp(
+        float::clamp(along, average - moved, average + moved),
+        0.0,
+        1.0,
+    )
+}
+
+fn in_motion(
+    before: &[u8],
+    before_shape: plane::Shape,
+    cur: &[u8],
+    cur_shape: plane::Shape,
+    after: &[u8],
+    after_shape: plane::Shape,
+    x: u32,
+    y: u32,
+    along: f32,
+) -> f32
+    requires { ⌜ Room y ⌝ }
+    ensures { λ r. ⌜ r ≡ inMotionOf (valueOf (now (before .entry)) «before_shape») (valueOf (now (cur .entry)) «cur_shape») (valueOf (now (after .entry)) «after_shape») (unbiased x) (unbiased y) along ⌝ }
+{
+    let up = y - 1;
+    let down = y + 1;
+    let earlier = plane::value_at(before, before_shape, x, y);
+    let later = plane::value_at(after, after_shape, x, y);
+    let moved = moved_of(
+        earlier,
+        later,
+        plane::value_at(before, before_shape, x, up),
+        plane::value_at(after, after_shape, x, up),
+        plane::value_at(before, before_shape, x, down),
+        plane::value_at(after, after_shape, x, down),
+        plane::value_at(cur, cur_shape, x, up),
+        plane::value_at(cur, cur_shape, x, down),
+    );
+    hold(along, average_of(earlier, later), moved)
+}
+
+// ---- Edge: a slant j of -2 to 2 is held as j + 2, and so is the k of a score. So the column x + k + j is
+// held as x + k + j - 4, and x + k - j as it stands.
+
+struct Best {
+    slant: u32,
+    score: f32,
+}
+
+fn across(cur: &[u8], s: plane::Shape, x: u32, y: u32, k: u32, j: u32) -> f32
+    requires { ⌜ Room x × Room y × (k ≤ 3) × (j ≤ 4) ⌝ }
+    ensures { λ r. ⌜ r ≡ acrossOf (valueOf (now (cur .entry)) s) (unbiased x) (unbiased y) (step k) (step j) ⌝ }
+{
+    let above = plane::value_at(cur, s, x + k + j - 4, y - 1);
+    let below = plane::value_at(cur, s, x + k - j, y + 1);
+    gap(above, below)
+}
+
+fn score(cur: &[u8], s: plane::Shape, x: u32, y: u32, j: u32) -> f32
+    requires { ⌜ Room x × Room y × (j ≤ 4) ⌝ }
+    ensures { λ r. ⌜ r ≡ scoreOf (valueOf (now (cur .entry)) s) (unbiased x) (unbiased y) (step j) ⌝ }
+{
+    across(cur, s, x, y, 1, j) + across(cur, s, x, y, 2, j) + across(cur, s, x, y, 3, j)
+}
+
+// |j|
+fn steepness(j: u32) -> u32
+    requires { ⌜ j ≤ 4 ⌝ }
+    ensures { λ r. ⌜ (r ≡ natAbs (step j)) × (r ≤ 2) ⌝ }
+{
+    if j < 2 { 2 - j } else { j - 2 }
+}
+
+fn slanted(cur: &[u8], s: plane::Shape, x: u32, y: u32, j: u32) -> f32
+    requires { ⌜ Room x × Room y × (j ≤ 4) ⌝ }
+    ensures { λ r. ⌜ r ≡ slantedOf (valueOf (now (cur .entry)) s) (unbiased x) (unbiased y) (step j) ⌝ }
+{
+    score(cur, s, x, y, j) + SLANT_BIAS * (steepness(j) as f32)
+}
+
+fn better(best: Best, j: u32, score: f32) -> Best
+    ensures { λ r. ⌜ seen r ≡ betterOf (seen best) (step j) score ⌝ }
+{
+    if score < best.score {
+        Best {
+            slant: j,
+            score: score,
+        }
+    } else {
+        best
+    }
+}
+
+fn tried(best: Best, cur: &[u8], s: plane::Shape, x: u32, y: u32, j: u32) -> Best
+    requires { ⌜ Room x × Room y × (j ≤ 4) ⌝ }
+    ensures { λ r. ⌜ seen r ≡ betterOf (seen best) (step j) (slantedOf (valueOf (now (cur .entry)) s) (unbiased x) (unbiased y) (step j)) ⌝ }
+{
+    better(best, j, slanted(cur, s, x, y, j))
+}
+
+// Tries 0, -1, 1, -2, 2.
+fn edge_at(cur: &[u8], s: plane::Shape, x: u32, y: u32) -> u32
+    requires { ⌜ Room x × Room y ⌝ }
+    ensures { λ r. ⌜ (step r ≡ edgeOf (valueOf (now (cur .entry)) s) (unbiased x) (unbiased y)) × (r ≤ 4) ⌝ }
+{
+    let upright = Best {
+        slant: 2,
+        score: score(cur, s, x, y, 2),
+    };
+    let left = tried(upright, cur, s, x, y, 1);
+    let right = tried(left, cur, s, x, y, 3);
+    let far_left = tried(right, cur, s, x, y, 0);
+    let far_right = tried(far_left, cur, s, x, y, 4);
+    far_right.slant
+}
+
+// ---- Yadif and Bwdif, along the edge
+
+fn near(cur: &[u8], s: plane::Shape, x: u32, y: u32, j: u32) -> f32
+    requires { ⌜ Room x × Room y × (j ≤ 4) ⌝ }
+    ensures { λ r. ⌜ r ≡ nearOf (valueOf (now (cur .entry)) s) (unbiased x) (unbiased y) (step j) ⌝ }
+{
+    plane::value_at(cur, s, x + j - 2, y - 1) + plane::value_at(cur, s, x + 2 - j, y + 1)
+}
+
+fn far(cur: &[u8], s: plane::Shape, x: u32, y: u32, j: u32) -> f32
+    requires { ⌜ Room x × Room y × (j ≤ 4) ⌝ }
+    ensures { λ r. ⌜ r ≡ farOf (valueOf (now (cur .entry)) s) (unbiased x) (unbiased y) (step j) ⌝ }
+{
+    plane::value_at(cur, s, x + 3 * j - 6, y - 3) + plane::value_at(cur, s, x + 6 - 3 * j, y + 3)
+}
+
+fn yadif(
+    before: &[u8],
+    before_shape: plane::Shape,
+    cur: &[u8],
+    cur_shape: plane::Shape,
+    after: &[u8],
+    after_shape: plane::Shape,
+    x: u32,
+    y: u32,
+) -> f32
+    requires { ⌜ Room x × Room y ⌝ }
+    ensures { λ r. ⌜ r ≡ yadifOf (valueOf (now (before .entry)) «before_shape») (valueOf (now (cur .entry)) «cur_shape») (valueOf (now (after .entry)) «after_shape») (unbiased x) (unbiased y) ⌝ }
+{
+    let j = edge_at(cur, cur_shape, x, y);
+    let along = near(cur, cur_shape, x, y, j) * 0.5;
+    in_motion(
+        before,
+        before_shape,
+        cur,
+        cur_shape,
+        after,
+        after_shape,
+        x,
+        y,
+        along,
+    )
+}
+
+fn cubic(near: f32, far: f32) -> f32
+    ensures { λ r. ⌜ r ≡ cubicOf near far ⌝ }
+{
+    (9.0 * near - far) / 16.0
+}
+
+fn bwdif(
+    before: &[u8],
+    before_shape: plane::Shape,
+    cur: &[u8],
+    cur_shape: plane::Shape,
+    after: &[u8],
+    after_shape: plane::Shape,
+    x: u32,
+    y: u32,
+) -> f32
+    requires { ⌜ Room x × Room y ⌝ }
+    ensures { λ r. ⌜ r ≡ bwdifOf (valueOf (now (before .entry)) «before_shape») (valueOf (now (cur .entry)) «cur_shape») (valueOf (now (after .entry)) «after_shape») (unbiased x) (unbiased y) ⌝ }
+{
+    let j = edge_at(cur, cur_shape, x, y);
+    let along = cubic(near(cur, cur_shape, x, y, j), far(cur, cur_shape, x, y, j));
+    in_motion(
+        before,
+        before_shape,
+        cur,
+        cur_shape,
+        after,
+        after_shape,
+        x,
+        y,
+        along,
+    )
+}
+
+// ---- a sample
+
+fn made(
+    quality: Quality,
+    before: &[u8],
+    before_shape: plane::Shape,
+    cur: &[u8],
+    cur_shape: plane::Shape,
+    after: &[u8],
+    after_shape: plane::Shape,
+    x: u32,
+    y: u32,
+) -> f32
+    requires { ⌜ Room x × Room y ⌝ }
+    ensures { λ r. ⌜ r ≡ madeOf quality (valueOf (now (before .entry)) «before_shape») (valueOf (now (cur .entry)) «cur_shape») (valueOf (now (after .entry)) «after_shape») (unbiased x) (unbiased y) ⌝ }
+{
+    match quality {
+        Quality::Weave => plane::value_at(cur, cur_shape, x, y),
+        Quality::Bob => bob(cur, cur_shape, x, y),
+        Quality::Yadif => yadif(
+            before,
+            before_shape,
+            cur,
+            cur_shape,
+            after,
+            after_shape,
+            x,
+            y,
+        ),
+        Quality::Bwdif => bwdif(
+            before,
+            before_shape,
+            cur,
+            cur_shape,
+            after,
+            after_shape,
+            x,
+            y,
+        ),
+    }
+}
+
+fn is_weave(quality: Quality) -> bool
+    ensures { λ r. ⌜ r ≡ weaves quality ⌝ }
+{
+    match quality {
+        Quality::Weave => true,
+        Quality::Bob => false,
+        Quality::Yadif => false,
+        Quality::Bwdif => false,
+    }
+}
+
+// Of coordinates that are held, and the parity of their row.
+fn sample_at(
+    quality: Quality,
+    before: &[u8],
+    before_shape: plane::Shape,
+    cur: &[u8],
+    cur_shape: plane::Shape,
+    after: &[u8],
+    after_shape: plane::Shape,
+    rows: Rows,
+    parity: u32,
+    x: u32,
+    y: u32,
+) -> f32
+    requires { ⌜ Room x × Room y × (parity ≡ parityOf (unbiased y)) ⌝ }
+    ensures { λ r. ⌜ r ≡ sampleOf quality rows (valueOf (now (before .entry)) «before_shape») (valueOf (now (cur .entry)) «cur_shape») (valueOf (now (after .entry)) «after_shape») (unbiased x) (unbiased y) ⌝ }
+{
+    if is_weave(quality) {
+        if parity == rows.mate {
+            return plane::value_at(before, before_shape, x, y);
+        }
+        return plane::value_at(cur, cur_shape, x, y);
+    }
+    if parity == rows.first {
+        return plane::value_at(cur, cur_shape, x, y);
+    }
+    made(
+        quality,
+        before,
+        before_shape,
+        cur,
+        cur_shape,
+        after,
+        after_shape,
+        x,
+        y,
+    )
+}
+
+// ---- the two calls
+
+// The slant that is held.
+fn signed(j: u32) -> i32
+    requires { ⌜ j ≤ 4 ⌝ }
+    ensures { λ r. ⌜ r ≡ step j ⌝ }
+{
+    match j {
+        0 => -2,
+        1 => -1,
+        2 => 0,
+        3 => 1,
+        _ => 2,
+    }
+}
+
+fn sample_no(
+    rows: Rows,
+    before_shape: plane::Shape,
+    before_bytes: usize,
+    cur_shape: plane::Shape,
+    cur_bytes: usize,
+    after_shape: plane::Shape,
+    after_bytes: usize,
+    x: i32,
+    y: i32,
+) -> u8
+    ensures { λ r. ⌜ r ≡ sampleNo rows «before_shape» «before_bytes» «cur_shape» «cur_bytes» «after_shape» «after_bytes» x y ⌝ }
+{
+    let inside = (rows.first <= 1) & (rows.mate <= 2) & plane::in_reach(x) & plane::in_reach(y);
+    let good = plane::good_shape(before_shape)
+        & plane::good_shape(cur_shape)
+        & plane::good_shape(after_shape);
+    let agree = plane::planes_agree(cur_shape, before_shape)
+        & plane::planes_agree(cur_shape, after_shape);
+    let enough = (plane::plane_bytes(before_shape) <= before_bytes)
+        & (plane::plane_bytes(cur_shape) <= cur_bytes)
+        & (plane::plane_bytes(after_shape) <= after_bytes);
+    plane::refusal::lowest_of(inside, good, agree, enough, true, true)
+}
+
+// How the edge runs at a place of a missing row: the upper row is looked at this far to the right, and
+// the lower as far to the left.
+pub fn edge(cur: &[u8], shape: plane::Shape, x: i32, y: i32) -> Edged
+    ensures { λ r. ⌜ (edgedNo r ≡ edgeNo shape (length (now (cur .entry))) x y) × (edgedValues r ≡ whenDone (edgeNo shape (length (now (cur .entry))) x y) (edgeOf (valueOf (now (cur .entry)) shape) x y)) ⌝ }
+{
+    let no = plane::refusal::lowest_of(
+        plane::in_reach(x) & plane::in_reach(y),
+        plane::good_shape(shape),
+        true,
+        plane::plane_bytes(shape) <= cur.len(),
+        true,
+        true,
+    );
+    if no == 0 {
+        Edged::Slant(signed(edge_at(cur, shape, plane::biased(x), plane::biased(y))))
+    } else {
+        Edged::Refused(no)
+    }
+}
+
+// The value at a place, of a picture that shows the rows `rows.first` of `cur`.
+pub fn sample(
+    quality: Quality,
+    before: &[u8],
+    before_shape: plane::Shape,
+    cur: &[u8],
+    cur_shape: plane::Shape,
+    after: &[u8],
+    after_shape: plane::Shape,
+    rows: Rows,
+    x: i32,
+    y: i32,
+) -> plane::Sampled
+    ensures { λ r. ⌜ (sampledNo r ≡ sampleNo rows «before_shape» (length (now (before .entry))) «cur_shape» (length (now (cur .entry))) «after_shape» (length (now (after .entry))) x y) × (sampledValues r ≡ whenDone (sampleNo rows «before_shape» (length (now (before .entry))) «cur_shape» (length (now (cur .entry))) «after_shape» (length (now (after .entry))) x y) (sampleOf quality rows (valueOf (now (before .entry)) «before_shape») (valueOf (now (cur .entry)) «cur_shape») (valueOf (now (after .entry)) «after_shape») x y)) ⌝ }
+{
+    let no = sample_no(
+        rows,
+        before_shape,
+        before.len(),
+        cur_shape,
+        cur.len(),
+        after_shape,
+        after.len(),
+        x,
+        y,
+    );
+    if no == 0 {
+        plane::Sampled::Value(sample_at(
+            quality,
+            before,
+            before_shape,
+            cur,
+            cur_shape,
+            after,
+            after_shape,
+            rows,
+            plane::row_parity(y),
+            plane::biased(x),
+            plane::biased(y),
+        ))
+    } else {
+        plane::Sampled::Refused(no)
+    }
+}
