@@ -38,7 +38,7 @@ unfolding rising
 sample-says rows before before-bytes cur cur-bytes after after-bytes x y = lowest-says _ tt
 
 pub one-edged : OneEdged
-one-edged (edged.Slant j) (edged.Slant k) n v = cc
+one-edged (edged.Slant j) (edged.Slant k) e v = cc
 one-edged (edged.Slant j) (edged.Refused n) e v = cc
 one-edged (edged.Refused m) (edged.Slant k) e v = cc
 one-edged (edged.Refused m) (edged.Refused n) e v = cc

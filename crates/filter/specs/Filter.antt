@@ -1,10 +1,9 @@
 -- The rows a field lacks (document 01, "Rows a field lacks"; the source is filter.rs). Each float step is one rounding of binary32, in the
 -- source's order. A plane is known here only as a sampler, a value at two coordinates; which planes those are, and what lies past an edge,
 -- is the sampler's own affair. Assumes nothing.
-use Prim.Native.Nat.{ℕ}
-use mathlib.Core.Bool.{Bool, cond}
+use mathlib.Core.Bool.{cond}
 use lib.Dec.{eqb}
-use lib.IntN.{ℤ, pos, negsuc, negℤ, natAbs, _+ℤ_, _-ℤ_, _*ℤ_}
+use lib.IntN.{ℤ, pos, negsuc, natAbs, _+ℤ_, _-ℤ_, _*ℤ_}
 use lib.Ieee.{Float, binary32, add, sub, mul, div, lt, ofInt, ofBits}
 use Rattle.float.specs.Float.{zeroF, oneF, absOf, minOf, maxOf, clampOf}
 use Rattle.plane.specs.Coordinates.{parityOf}
