@@ -1,0 +1,9 @@
+-- Laws that the proofs of this crate share, and that later crates can cite. Assumes nothing.
+pub mod Bools
+pub mod FirstPhase
+pub mod Walk
+pub mod Phases
+pub mod Follow
+pub mod Holds
+pub mod Claims
+pub mod Cards

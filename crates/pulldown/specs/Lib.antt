@@ -1,0 +1,7 @@
+-- The definitions that the contracts of `pulldown` cite, and the claims about them. Assumes nothing.
+pub mod Symbols
+pub mod Table
+pub mod Runs
+pub mod Lock
+pub mod Claims
+pub mod Cards
