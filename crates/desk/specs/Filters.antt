@@ -5,10 +5,15 @@ use mathlib.Core.List.{List, [], _∷_}
 use lib.Dec.{leb, eqb}
 use lib.IntN.{ℤ}
 use Rattle.laws.specs.Refusal.{lowest}
+use lib.Ieee.{Float}
+use Rattle.field.specs.declared.Parity.{Parity}
+use Rattle.field.specs.declared.Parity.the-variants.{Top, Bottom}
+use Rattle.plane.specs.Plane.{valueOf}
 use Rattle.filter.specs.declared.Quality.{Quality}
 use Rattle.filter.specs.declared.Quality.the-variants.{Weave, Bob, Yadif, Bwdif}
 use Rattle.filter.specs.declared.Rows.{Rows}
 use Rattle.filter.specs.Answer.{edgeTests, sampleTests}
+use Rattle.fill.specs.Fill.{linesOf, planeTests, fieldRows}
 use Rattle.desk.specs.declared.planes.PlaneNumbers.{PlaneNumbers}
 use Rattle.desk.specs.Planes.{shapeNamed, named}
 
@@ -31,3 +36,19 @@ sampleNo quality rows before before-bytes cur cur-bytes after after-bytes x y =
     lowest
     ((3, allNamed quality before cur after)
     ∷ sampleTests rows (shapeNamed before) before-bytes (shapeNamed cur) cur-bytes (shapeNamed after) after-bytes x y)
+
+-- 0 top, 1 bottom: a field by its first row
+abbrev pub parityNamed : ℕ → Parity
+parityNamed first = cond (eqb first 0) Top Bottom
+
+-- 3 also where a code names nothing, or `first` is neither 0 nor 1
+abbrev pub planeNo : ℕ → ℕ → PlaneNumbers → ℕ → PlaneNumbers → ℕ → PlaneNumbers → ℕ → ℕ → ℕ
+planeNo quality first before before-bytes cur cur-bytes after after-bytes room =
+    lowest
+    ((3, allNamed quality before cur after && leb first 1) ∷ planeTests (shapeNamed before) before-bytes (shapeNamed cur) cur-bytes (shapeNamed after) after-bytes room)
+
+-- the samples of the plane that the numbers name
+abbrev pub linesNamed : ℕ → ℕ → List ℕ → PlaneNumbers → List ℕ → PlaneNumbers → List ℕ → PlaneNumbers → List Float
+linesNamed quality first before before-shape cur cur-shape after after-shape =
+    linesOf (qualityNamed quality) (fieldRows (parityNamed first)) (valueOf before (shapeNamed before-shape)) (valueOf cur (shapeNamed cur-shape))
+    (valueOf after (shapeNamed after-shape)) (shapeNamed cur-shape .width) (shapeNamed cur-shape .height)

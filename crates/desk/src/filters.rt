@@ -5,10 +5,11 @@ use plane::refusal;
 ghost use mathlib.Core.Path.{_≡_};
 ghost use lib.ListN.{length};
 ghost use Rattle.laws.specs.Refusal.{written};
+ghost use Rattle.laws.specs.Rows.{over};
 ghost use Rattle.plane.specs.Plane.{valueOf};
 ghost use Rattle.filter.specs.Filter.{edgeOf, sampleOf};
 ghost use Rattle.desk.specs.Planes.{shapeNamed};
-ghost use Rattle.desk.specs.Filters.{qualityNamed, rowsNamed, edgeNo, sampleNo};
+ghost use Rattle.desk.specs.Filters.{qualityNamed, rowsNamed, edgeNo, sampleNo, parityNamed, planeNo, linesNamed};
 
 // 0 Weave, 1 Bob, 2 Yadif, 3 Bwdif.
 pub fn quality_named(code: u8) -> filter::Quality
@@ -94,4 +95,52 @@ pub extern "C" fn desk_sample(
         }
         plane::Sampled::Refused(no) => no,
     }
+}
+
+// The field by its first row.
+fn parity_named(first: u8) -> field::Parity
+    ensures { λ r. ⌜ r ≡ parityNamed first ⌝ }
+{
+    if first == 0 {
+        field::Parity::Top
+    } else {
+        field::Parity::Bottom
+    }
+}
+
+// The samples of a whole plane, row by row, of which the rows `first`, 0 or 1, are shown. Numbers 3 to 7.
+#[no_mangle]
+pub extern "C" fn desk_plane(
+    quality: u8,
+    first: u8,
+    before: &[u8],
+    before_shape: PlaneNumbers,
+    cur: &[u8],
+    cur_shape: PlaneNumbers,
+    after: &[u8],
+    after_shape: PlaneNumbers,
+    out: &mut [f32],
+) -> u8
+    ensures { λ r. ⌜ r ≡ planeNo quality first «before_shape» (length (now (before .entry))) «cur_shape» (length (now (cur .entry))) «after_shape» (length (now (after .entry))) (length (now (out .entry))) ⌝ }
+    ensures { λ _. ⌜ now (out .exit) ≡ written (planeNo quality first «before_shape» (length (now (before .entry))) «cur_shape» (length (now (cur .entry))) «after_shape» (length (now (after .entry))) (length (now (out .entry)))) (over (linesNamed quality first (now (before .entry)) «before_shape» (now (cur .entry)) «cur_shape» (now (after .entry)) «after_shape») (now (out .entry))) (now (out .entry)) ⌝ }
+{
+    let named = (quality <= 3)
+        & (before_shape.layout <= 3)
+        & (cur_shape.layout <= 3)
+        & (after_shape.layout <= 3)
+        & (first <= 1);
+    if !named {
+        return refusal::OUTSIDE;
+    }
+    fill::plane(
+        out,
+        quality_named(quality),
+        parity_named(first),
+        before,
+        planes::shape_named(before_shape),
+        cur,
+        planes::shape_named(cur_shape),
+        after,
+        planes::shape_named(after_shape),
+    )
 }

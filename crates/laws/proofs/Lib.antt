@@ -1,4 +1,6 @@
--- Assumes nothing.
+-- The laws that later crates cite, and the claims. Assumes nothing.
 pub mod Refusal
 pub mod Sums
+pub mod Lists
+pub mod Rows
 pub mod Claims

@@ -1,7 +1,7 @@
 -- Laws of sums. A loop that adds f 0, f 1, .. keeps `Summed`: `starts` enters it, `adds` is a turn, `ends` leaves it. Assumes nothing.
 use Prim.Native.Nat.{ℕ, zero, suc, _+_, _*_, _≤_, _<_}
 use mathlib.Core.Path.{_≡_, refl, sym, ap, ap₂, _∙_}
-use native.Mathlib.Nat.{mul-suc, le-antisymm}
+use native.Mathlib.Nat.{mul-suc, suc-mul, le-antisymm}
 use native.Mathlib.Numerals.{add-one}
 use native.Mathlib.Omega.{arith}
 use Rattle.laws.specs.Sums.{sumOver}
@@ -16,6 +16,16 @@ same-terms (suc n) f g h = ap₂ (λ (a b : ℕ). a + b) (same-terms n f g (λ k
 pub one-more : (n : ℕ) (f : ℕ → ℕ) → sumOver (n + 1) f ≡ sumOver n f + f n
 unfolding sumOver
 one-more n f = rw add-one
+
+-- ---- bounds
+-- a sum of terms none of which is above `most`
+pub sum-at-most : (n most : ℕ) (f : ℕ → ℕ) → ((k : ℕ) → k < n → f k ≤ most) → sumOver n f ≤ n * most
+unfolding sumOver
+sum-at-most zero most f h = omega arith
+sum-at-most (suc n) most f h = rw suc-mul (omega (arith, sum-at-most n most f (λ k l. h k (omega arith)), h n (omega arith)))
+
+pub sum-of-zeros : (n : ℕ) (f : ℕ → ℕ) → ((k : ℕ) → k < n → f k ≡ 0) → sumOver n f ≡ 0
+sum-of-zeros n f h = omega (arith, sum-at-most n 0 f (λ k l. omega (arith, h k l)))
 
 -- ---- a total after k of n terms, none above `most`
 pub record Summed (most : ℕ) (f : ℕ → ℕ) (n total k : ℕ) : Type 0 where

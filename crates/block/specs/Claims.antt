@@ -1,0 +1,65 @@
+-- What holds of the definitions here. proofs/Claims.antt proves each under its name in small letters. Assumes nothing.
+use Prim.Native.Nat.{ℕ, _+_, _*_, _≤_, _<_}
+use mathlib.Core.Path.{_≡_}
+use mathlib.Core.Bool.{true, false, cond}
+use mathlib.Core.List.{List}
+use lib.Dec.{ltb}
+use Rattle.laws.specs.Refusal.{Says}
+use Rattle.laws.specs.Rows.{over}
+use Rattle.laws.specs.Sums.{apart}
+use Rattle.plane.specs.declared.Shape.{Shape}
+use Rattle.block.specs.declared.Counted.{Counted}
+use Rattle.block.specs.Block.{keptOf, keptFrame, storedOf, busy, busyOf, busyField}
+use Rattle.block.specs.Answer.{countedNo, countedValues, countTests, keepTests}
+
+-- `count` gives 4 exactly when the shape is outside the bounds, 6 exactly when only the plane or the store is too short, 0 exactly when neither
+abbrev pub CountSays : Type 0
+CountSays = (s : Shape) (bytes room : ℕ) → Says (countTests s bytes room)
+
+-- `keep` likewise, with 7 exactly when only the store is too short
+abbrev pub KeepSays : Type 0
+KeepSays = (s : Shape) (bytes room : ℕ) → Says (keepTests s bytes room)
+
+-- number and values leave no choice: a contract that settles both settles the answer
+abbrev pub OneCounted : Type 0
+OneCounted = (a b : Counted) → countedNo a ≡ countedNo b → countedValues a ≡ countedValues b → a ≡ b
+
+-- a sample of a picture, read back from the store that `keep` wrote it to, is what is kept of it
+abbrev pub KeptReadsBack : Type 0
+KeptReadsBack =
+    (bytes : List ℕ) (s : Shape) (store : List ℕ) (x y : ℕ) →
+    x < s .width → y < s .height → storedOf (over (keptFrame bytes s) store) (s .width) x y ≡ keptOf bytes s x y
+
+-- a count is settled by the samples inside the two fields
+abbrev pub SamplesSettle : Type 0
+SamplesSettle =
+    (new old new′ old′ : ℕ → ℕ → ℕ) (width rows : ℕ) →
+    ((x r : ℕ) → x < width → r < rows → new x r ≡ new′ x r) →
+    ((x r : ℕ) → x < width → r < rows → old x r ≡ old′ x r) →
+    busyOf new old width rows ≡ busyOf new′ old′ width rows
+
+-- a field that is nowhere more than 8 away from the other has no busy block
+abbrev pub NearIsQuiet : Type 0
+NearIsQuiet =
+    (new old : ℕ → ℕ → ℕ) (width rows : ℕ) →
+    ((x r : ℕ) → x < width → r < rows → apart (new x r) (old x r) ≤ 8) → busyOf new old width rows ≡ 0
+
+-- so a frame against itself has none
+abbrev pub SameFrameIsQuiet : Type 0
+SameFrameIsQuiet = (frame : ℕ → ℕ → ℕ) (width rows : ℕ) → busyOf frame frame width rows ≡ 0
+
+-- nor has a picture, in either field, against the store that `keep` wrote it to
+abbrev pub KeptFrameIsQuiet : Type 0
+KeptFrameIsQuiet =
+    (bytes : List ℕ) (s : Shape) (store : List ℕ) (parity : ℕ) → parity ≤ 1 → busyField bytes s (over (keptFrame bytes s) store) parity ≡ 0
+
+-- a block of 16 by 8 samples whose first n, row by row, are 9, and one of zeros
+abbrev pub begun : ℕ → ℕ → ℕ → ℕ
+begun n x r = cond (ltb (16 * r + x) n) 9 0
+
+abbrev pub blank : ℕ → ℕ → ℕ
+blank x r = 0
+
+-- 33 of 128 differ: busy; 32: not
+abbrev pub CardBlocks : Type 0
+CardBlocks = (busy (begun 33) blank 16 8 0 0 ≡ true) × (busy (begun 32) blank 16 8 0 0 ≡ false)

@@ -1,0 +1,6 @@
+-- The definitions that the contracts of `block` cite. Assumes nothing.
+pub mod Block
+pub mod Answer
+pub mod Rows
+pub mod Counters
+pub mod Claims

@@ -1,0 +1,440 @@
+// Copyright 2026 Till0196
+// SPDX-License-Identifier: Apache-2.0
+// Carried over from core/src/output/video/telecine.rs (`Snapshot`), and changed: the kept frame is one lent
+// store of width times height bytes, which a new picture is compared with and then written over.
+//
+// Which blocks of a field moved against the frame that a store keeps. Assumes nothing.
+ghost use mathlib.Core.Path.{_≡_};
+ghost use mathlib.Core.Bool.{true};
+ghost use Prim.Native.Nat.{_+_, _*_, _<_, _≤_, min};
+ghost use lib.Dec.{ltb};
+ghost use lib.ListN.{length, getD, take, drop};
+ghost use Rattle.laws.specs.Refusal.{whenDone, written};
+ghost use Rattle.laws.specs.Rows.{listed, over};
+ghost use Rattle.laws.specs.Sums.{sumOver, apart};
+ghost use Rattle.field.specs.Field.{firstRowOf};
+ghost use Rattle.plane.specs.Plane.{biplanar};
+ghost use Rattle.block.specs.Block.{keptOf, keptFrame, rowsOf, oneIf, differs, blocksAcross, bandsDown, totalOf, busyField};
+ghost use Rattle.block.specs.Answer.{countedNo, countedValues, countsOf, countNo, keepNo};
+ghost use Rattle.block.specs.Rows.{Ready, RowReady, KeptRow, alone, byteRows, down, pairKept};
+ghost use Rattle.block.specs.Counters.{differingIn, differingRow, bandRow, busyBy, Counters, Added};
+use plane::Layout;
+use plane::Shape;
+
+// Busy blocks, and all blocks, of a field.
+pub struct Counts {
+    pub busy: u64,
+    pub total: u64,
+}
+
+pub enum Counted {
+    Value(Counts),
+    Refused(u8),
+}
+
+// A part of n bytes.
+fn part_at(bytes: &[u8], start: usize, n: usize) -> &[u8]
+    requires { ⌜ start + n ≤ length (now bytes) ⌝ }
+    ensures { λ r. ⌜ now r ≡ take n (drop start (now (bytes .entry))) ⌝ }
+{
+    &bytes[start..start + n]
+}
+
+// ---- rows as they are kept
+
+// A row with samples of one component only can be read from end to end.
+fn is_alone(layout: Layout) -> bool
+    ensures { λ r. ⌜ r ≡ alone layout ⌝ }
+{
+    match layout {
+        Layout::Planar => true,
+        Layout::Luma => true,
+        Layout::First => false,
+        Layout::Second => false,
+    }
+}
+
+fn has_byte_rows(shape: Shape) -> bool
+    ensures { λ r. ⌜ r ≡ byteRows shape ⌝ }
+{
+    let layout = shape.layout;
+    is_alone(layout) & (shape.depth <= 8)
+}
+
+fn is_biplanar(layout: Layout) -> bool
+    ensures { λ r. ⌜ r ≡ biplanar layout ⌝ }
+{
+    match layout {
+        Layout::Planar => false,
+        Layout::Luma => true,
+        Layout::First => true,
+        Layout::Second => true,
+    }
+}
+
+// A biplanar code goes right by 16 - depth and then by depth - 8.
+fn down_of(layout: Layout, depth: u8) -> u16
+    requires { ⌜ (9 ≤ depth) × (depth ≤ 16) ⌝ }
+    ensures { λ r. ⌜ (r ≡ down layout depth) × (r ≤ 8) ⌝ }
+{
+    if is_biplanar(layout) {
+        8
+    } else {
+        depth as u16 - 8
+    }
+}
+
+fn wide(byte: u8) -> u16
+    ensures { λ r. ⌜ (r ≡ byte) × (r < 256) ⌝ }
+{
+    byte as u16
+}
+
+// A row for each way that samples stand. The first two loops run over parts, so that the compiler
+// drops every index test and vectorises them.
+fn keep_bytes(to: &mut [u8], row: &[u8])
+    requires { ⌜ length (now row) ≡ length (now to) ⌝ }
+    ensures { λ _. ⌜ now (to .exit) ≡ listed (length (now (to .entry))) (λ x. getD (now (row .entry)) x 0) ⌝ }
+{
+    let mut x = 0;
+    while x < to.len() {
+        to[x] = row[x];
+        x += 1;
+    }
+}
+
+fn keep_pairs(to: &mut [u8], row: &[u8], right: u16)
+    requires { ⌜ (length (now row) ≡ length (now to) * 2) × (right ≤ 8) ⌝ }
+    ensures { λ _. ⌜ now (to .exit) ≡ listed (length (now (to .entry))) (pairKept (now (row .entry)) right) ⌝ }
+{
+    let mut x = 0;
+    while x < to.len() {
+        let i = x * 2;
+        let code = wide(row[i]) + 256 * wide(row[i + 1]);
+        to[x] = ((code >> right) % 256) as u8;
+        x += 1;
+    }
+}
+
+fn kept_at(plane: &[u8], shape: Shape, x: u16, y: u16) -> u8
+    requires { ⌜ (8 ≤ shape .depth) × (shape .depth ≤ 16) ⌝ }
+    ensures { λ r. ⌜ r ≡ keptOf (now (plane .entry)) shape x y ⌝ }
+{
+    let deeper = shape.depth - 8;
+    ((plane::code_at(plane, shape, x, y) >> deeper) % 256) as u8
+}
+
+fn keep_shared(to: &mut [u8], plane: &[u8], shape: Shape, y: u16)
+    requires { ⌜ (length (now to) ≡ shape .width) × (8 ≤ shape .depth) × (shape .depth ≤ 16) ⌝ }
+    ensures { λ _. ⌜ now (to .exit) ≡ listed (shape .width) (λ x. keptOf (now (plane .entry)) shape x y) ⌝ }
+{
+    let mut x: u16 = 0;
+    while x < shape.width {
+        let i = x as usize;
+        to[i] = kept_at(plane, shape, x, y);
+        x += 1;
+    }
+}
+
+// Row y of a picture whose rows are bytes, where it stands.
+fn byte_row(plane: &[u8], shape: Shape, y: usize) -> &[u8]
+    requires { ⌜ RowReady shape (length (now plane)) y × (byteRows shape ≡ true) ⌝ }
+    ensures { λ r. ⌜ KeptRow (now r) (now (plane .entry)) shape y ⌝ }
+{
+    part_at(plane, y * (shape.stride as usize), shape.width as usize)
+}
+
+// Row y of a picture, kept in a place of just its width.
+fn keep_row(to: &mut [u8], plane: &[u8], shape: Shape, y: usize)
+    requires { ⌜ RowReady shape (length (now plane)) y × (length (now to) ≡ shape .width) ⌝ }
+    ensures { λ _. ⌜ now (to .exit) ≡ listed (shape .width) (λ x. keptOf (now (plane .entry)) shape x y) ⌝ }
+{
+    if has_byte_rows(shape) {
+        keep_bytes(to, byte_row(plane, shape, y));
+        return;
+    }
+    let layout = shape.layout;
+    if is_alone(layout) {
+        let start = y * (shape.stride as usize);
+        let bytes = (shape.width as usize) * 2;
+        keep_pairs(
+            to,
+            part_at(plane, start, bytes),
+            down_of(layout, shape.depth),
+        );
+        return;
+    }
+    keep_shared(to, plane, shape, y as u16);
+}
+
+// ---- blocks
+
+// |a - b|.
+fn distance(a: u8, b: u8) -> u8
+    ensures { λ r. ⌜ r ≡ apart a b ⌝ }
+{
+    if a < b { b - a } else { a - b }
+}
+
+// 1 where two samples differ, else 0.
+fn differ(a: u8, b: u8) -> u32
+    ensures { λ r. ⌜ (r ≡ oneIf (differs a b)) × (r ≤ 1) ⌝ }
+{
+    if 8 < distance(a, b) { 1 } else { 0 }
+}
+
+// How many samples of two parts of a row differ.
+fn differ_in(a: &[u8], b: &[u8]) -> u32
+    requires { ⌜ (length (now a) ≡ length (now b)) × (length (now a) ≤ 16) ⌝ }
+    ensures { λ r. ⌜ (r ≡ sumOver (length (now (a .entry))) (λ x. oneIf (differs (getD (now (a .entry)) x 0) (getD (now (b .entry)) x 0)))) × (r ≤ 16) ⌝ }
+{
+    let mut n: u32 = 0;
+    let mut x = 0;
+    while x < a.len() {
+        n += differ(a[x], b[x]);
+        x += 1;
+    }
+    n
+}
+
+// A block's side, or what is left at the edge.
+fn lesser(side: usize, left: usize) -> usize
+    ensures { λ r. ⌜ r ≡ min side left ⌝ }
+{
+    if side <= left { side } else { left }
+}
+
+// Blocks across a row, and bands down a field.
+fn across(width: usize) -> usize
+    requires { ⌜ width ≤ 65535 ⌝ }
+    ensures { λ r. ⌜ (r ≡ blocksAcross width) × (r ≤ 4096) ⌝ }
+{
+    (width + 15) / 16
+}
+
+fn bands(rows: usize) -> usize
+    requires { ⌜ rows ≤ 32768 ⌝ }
+    ensures { λ r. ⌜ (r ≡ bandsDown rows) × (r ≤ 4096) ⌝ }
+{
+    (rows + 7) / 8
+}
+
+// Adds to the counter of each block of 16 columns the differing samples of two rows there.
+fn add_row(counters: &mut [u32; 512], new: &[u8], old: &[u8])
+    requires { ⌜ Counters (now counters) (length (now new)) × (length (now new) ≡ length (now old)) ⌝ }
+    ensures { λ _. ⌜ (length (now (counters .exit)) ≡ 512) × Added (now (counters .entry)) (now (counters .exit)) (differingIn (λ x. getD (now (new .entry)) x 0) (λ x. getD (now (old .entry)) x 0) (length (now (new .entry)))) (blocksAcross (length (now (new .entry)))) ⌝ }
+{
+    let width = new.len();
+    let blocks = across(width);
+    let mut b = 0;
+    while b < blocks {
+        let start = 16 * b;
+        let n = lesser(16, width - start);
+        let more = differ_in(part_at(new, start, n), part_at(old, start, n));
+        counters[b] += more;
+        b += 1;
+    }
+}
+
+// The same of row y of a picture and of the kept frame. Rows that are no bytes are kept in `row` first.
+fn add_row_of(
+    counters: &mut [u32; 512],
+    row: &mut [u8],
+    plane: &[u8],
+    shape: Shape,
+    store: &[u8],
+    y: usize,
+)
+    requires { ⌜ Ready shape (length (now plane)) (length (now store)) × (y < shape .height) × (length (now row) ≡ shape .width) × Counters (now counters) (shape .width) ⌝ }
+    ensures { λ _. ⌜ (length (now (counters .exit)) ≡ 512) × Added (now (counters .entry)) (now (counters .exit)) (differingRow (now (plane .entry)) shape (now (store .entry)) y) (blocksAcross (shape .width)) ⌝ }
+{
+    let width = shape.width as usize;
+    let old = part_at(store, y * width, width);
+    if has_byte_rows(shape) {
+        add_row(counters, byte_row(plane, shape, y), old);
+        return;
+    }
+    keep_row(row, plane, shape, y);
+    add_row(counters, row, old);
+}
+
+// 1 where a block is busy, else 0.
+fn busy_if(differing: u32, size: usize) -> u64
+    requires { ⌜ differing ≤ 128 ⌝ }
+    ensures { λ r. ⌜ (r ≡ oneIf (ltb size (4 * differing))) × (r ≤ 1) ⌝ }
+{
+    if size < 4 * (differing as usize) {
+        1
+    } else {
+        0
+    }
+}
+
+// The busy blocks of a band, by its counters.
+fn busy_in(counters: &[u32; 512], width: usize, rows: usize) -> u64
+    requires { ⌜ Counters (now counters) width × (rows ≤ 8) ⌝ }
+    ensures { λ r. ⌜ (r ≡ busyBy width rows (λ b. getD (now (counters .entry)) b 0)) × (r ≤ 512) ⌝ }
+{
+    let blocks = across(width);
+    let mut busy: u64 = 0;
+    let mut b = 0;
+    while b < blocks {
+        let n = lesser(16, width - 16 * b);
+        busy += busy_if(counters[b], n * rows);
+        b += 1;
+    }
+    busy
+}
+
+// The busy blocks of the band of a field whose top is its row `top`.
+fn band(
+    row: &mut [u8],
+    plane: &[u8],
+    shape: Shape,
+    store: &[u8],
+    first: usize,
+    top: usize,
+    rows: usize,
+) -> u64
+    requires { ⌜ Ready shape (length (now plane)) (length (now store)) × (first ≤ 1) × (top + rows ≤ rowsOf (shape .height) first) × (rows ≤ 8) × (length (now row) ≡ shape .width) ⌝ }
+    ensures { λ r. ⌜ (r ≡ busyBy (shape .width) rows (λ b. sumOver rows (λ i. bandRow (now (plane .entry)) shape (now (store .entry)) first top i b))) × (r ≤ 512) ⌝ }
+{
+    let mut counters = [0u32; 512];
+    let mut i = 0;
+    while i < rows {
+        let y = 2 * (top + i) + first;
+        add_row_of(&mut counters, row, plane, shape, store, y);
+        i += 1;
+    }
+    busy_in(&counters, shape.width as usize, rows)
+}
+
+// The busy blocks of a field, whose rows are every second one from `first` on.
+fn busy_rows(
+    row: &mut [u8],
+    plane: &[u8],
+    shape: Shape,
+    store: &[u8],
+    first: usize,
+    rows: usize,
+) -> u64
+    requires { ⌜ Ready shape (length (now plane)) (length (now store)) × (first ≤ 1) × (rows ≡ rowsOf (shape .height) first) × (length (now row) ≡ shape .width) ⌝ }
+    ensures { λ r. ⌜ r ≡ busyField (now (plane .entry)) shape (now (store .entry)) first ⌝ }
+{
+    let n = bands(rows);
+    let mut busy: u64 = 0;
+    let mut k = 0;
+    while k < n {
+        let top = 8 * k;
+        busy += band(row, plane, shape, store, first, top, lesser(8, rows - top));
+        k += 1;
+    }
+    busy
+}
+
+fn rows_of(height: u16, first: usize) -> usize
+    requires { ⌜ first ≤ 1 ⌝ }
+    ensures { λ r. ⌜ (r ≡ rowsOf height first) × (r ≤ 32768) ⌝ }
+{
+    (height as usize + 1 - first) / 2
+}
+
+fn total_of(width: u16, rows: usize) -> u64
+    requires { ⌜ rows ≤ 32768 ⌝ }
+    ensures { λ r. ⌜ r ≡ totalOf width rows ⌝ }
+{
+    (across(width as usize) * bands(rows)) as u64
+}
+
+// The buffer for rows that are kept first is made once.
+fn counts_of(plane: &[u8], shape: Shape, store: &[u8], first: usize) -> Counts
+    requires { ⌜ Ready shape (length (now plane)) (length (now store)) × (first ≤ 1) ⌝ }
+    ensures { λ r. ⌜ r ≡ countsOf (now (plane .entry)) shape (now (store .entry)) first ⌝ }
+{
+    let mut row = [0u8; 8192];
+    let width = shape.width as usize;
+    let rows = rows_of(shape.height, first);
+    let busy = busy_rows(&mut row[0..width], plane, shape, store, first, rows);
+    Counts {
+        busy: busy,
+        total: total_of(shape.width, rows),
+    }
+}
+
+// ---- refusals
+
+// What a store needs to keep a frame.
+fn frame_bytes(shape: Shape) -> usize
+    ensures { λ r. ⌜ r ≡ shape .height * shape .width ⌝ }
+{
+    (shape.height as usize) * (shape.width as usize)
+}
+
+fn count_no(shape: Shape, bytes: usize, room: usize) -> u8
+    ensures { λ r. ⌜ r ≡ countNo shape bytes room ⌝ }
+{
+    plane::refusal::lowest_of(
+        true,
+        plane::good_shape(shape),
+        true,
+        (plane::plane_bytes(shape) <= bytes) & (frame_bytes(shape) <= room),
+        true,
+        true,
+    )
+}
+
+fn keep_no(shape: Shape, bytes: usize, room: usize) -> u8
+    ensures { λ r. ⌜ r ≡ keepNo shape bytes room ⌝ }
+{
+    plane::refusal::lowest_of(
+        true,
+        plane::good_shape(shape),
+        true,
+        plane::plane_bytes(shape) <= bytes,
+        frame_bytes(shape) <= room,
+        true,
+    )
+}
+
+// ---- the calls
+
+// The counts of the field of a parity of a picture, against the same parity of the frame of that size
+// which the store keeps.
+pub fn count(plane: &[u8], shape: plane::Shape, store: &[u8], parity: field::Parity) -> Counted
+    ensures { λ r. ⌜ (countedNo r ≡ countNo shape (length (now (plane .entry))) (length (now (store .entry)))) × (countedValues r ≡ whenDone (countNo shape (length (now (plane .entry))) (length (now (store .entry)))) (countsOf (now (plane .entry)) shape (now (store .entry)) (firstRowOf parity))) ⌝ }
+{
+    let no = count_no(shape, plane.len(), store.len());
+    if no == 0 {
+        Counted::Value(counts_of(plane, shape, store, parity.first_row() as usize))
+    } else {
+        Counted::Refused(no)
+    }
+}
+
+// Each row of a picture, kept behind the one above it.
+fn keep_rows(store: &mut [u8], plane: &[u8], shape: Shape)
+    requires { ⌜ Ready shape (length (now plane)) (length (now store)) ⌝ }
+    ensures { λ _. ⌜ now (store .exit) ≡ over (keptFrame (now (plane .entry)) shape) (now (store .entry)) ⌝ }
+{
+    let width = shape.width as usize;
+    let height = shape.height as usize;
+    let mut y = 0;
+    while y < height {
+        let start = y * width;
+        keep_row(&mut store[start..start + width], plane, shape, y);
+        y += 1;
+    }
+}
+
+// Keeps a picture as 8 bits at the store's front.
+pub fn keep(store: &mut [u8], plane: &[u8], shape: plane::Shape) -> u8
+    ensures { λ r. ⌜ r ≡ keepNo shape (length (now (plane .entry))) (length (now (store .entry))) ⌝ }
+    ensures { λ _. ⌜ now (store .exit) ≡ written (keepNo shape (length (now (plane .entry))) (length (now (store .entry)))) (over (keptFrame (now (plane .entry)) shape) (now (store .entry))) (now (store .entry)) ⌝ }
+{
+    let no = keep_no(shape, plane.len(), store.len());
+    if no == 0 {
+        keep_rows(store, plane, shape);
+        return no;
+    }
+    no
+}

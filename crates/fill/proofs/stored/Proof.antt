@@ -1,0 +1,65 @@
+-- `fill::stored` meets its contract. Assumes nothing.
+use mathlib.Core.Path.{_≡_}
+use Prim.Native.Nat.{ℕ, _≤_, _<_}
+use native.Mathlib.Omega.{arith}
+use borrow.Author.Tests.{le-leb, lt-leb}
+use borrow.Author.Needs.{needs}
+use Rattle.plane.specs.Plane.{sampleBytes}
+use Rattle.fill.proofs.stored.Statement.{statement}
+use Rattle.fill.proofs.stored.Tie as tie
+
+-- one byte, or two
+width-short : (depth : ℕ) → depth ≤ 8 → sampleBytes depth ≡ 1
+width-short depth h = simp (le-leb depth 8 h)
+
+width-long : (depth : ℕ) → 8 < depth → sampleBytes depth ≡ 2
+width-long depth h = simp (lt-leb depth 8 h)
+
+shared-slice-read-wide : tie.Need-shared-slice-read-wide
+shared-slice-read-wide c = omega (arith, width-short _ (c .before .if1 .taken))
+
+wide-requires : tie.Need-wide-requires
+wide-requires c κs = search needs
+
+returns : tie.Need-returns
+returns c = simp (le-leb _ _ (c .before .before .if1 .taken)) (c .wide .ensures .0)
+
+shared-slice-read-wide-2 : tie.Need-shared-slice-read-wide-2
+shared-slice-read-wide-2 c = omega (arith, width-long _ (c .before .if1 .left))
+
+wide-requires-2 : tie.Need-wide-requires-2
+wide-requires-2 c κs = search needs
+
+add-wide : tie.Need-add-wide
+add-wide c = search needs
+
+shared-slice-read-wide-3 : tie.Need-shared-slice-read-wide-3
+shared-slice-read-wide-3 c = omega (arith, width-long _ (c .before .before .before .if1 .left))
+
+wide-requires-3 : tie.Need-wide-requires-3
+wide-requires-3 c κs = search needs
+
+mul-result : tie.Need-mul-result
+mul-result c = search needs
+
+add-result : tie.Need-add-result
+add-result c = search needs
+
+returns-2 : tie.Need-returns-2
+returns-2 c = simp (lt-leb _ _ (c .before .before .before .before .if1 .left), c .before .before .wide2 .ensures .0, c .wide3 .ensures .0)
+
+pub stored-spec : {M : Type 1} → statement M
+stored-spec =
+    tie.close
+    (tie.spec
+    shared-slice-read-wide
+    wide-requires
+    returns
+    shared-slice-read-wide-2
+    wide-requires-2
+    add-wide
+    shared-slice-read-wide-3
+    wide-requires-3
+    mul-result
+    add-result
+    returns-2)

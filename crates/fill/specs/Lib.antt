@@ -1,0 +1,5 @@
+-- The definitions that the contracts of `fill` cite. Assumes nothing.
+pub mod Fill
+pub mod Band
+pub mod Lines
+pub mod Claims

@@ -1,0 +1,17 @@
+-- The claims of specs/Claims.antt. Assumes nothing.
+use Rattle.scanline.specs.Claims.{OwnSays, BobSays, YadifSays, BwdifSays}
+use Rattle.scanline.proofs.Columns.{at-here}
+use Rattle.scanline.proofs.Slants.{bob-same, yadif-same, bwdif-same}
+
+pub own-says : OwnSays
+own-says row v width y h x l = at-here h x l
+
+pub bob-says : BobSays
+bob-says above below v width y r x l = bob-same r x l
+
+pub yadif-says : YadifSays
+yadif-says above below earlier-up earlier earlier-down later-up later later-down before cur after width y m x l = yadif-same m x l
+
+pub bwdif-says : BwdifSays
+bwdif-says above below earlier-up earlier earlier-down later-up later later-down far-above far-below before cur after width y m far x l =
+    bwdif-same m x l far

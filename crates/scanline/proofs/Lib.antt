@@ -1,0 +1,5 @@
+-- The laws that the proofs cite, here and in crates above, and the claims. Assumes nothing.
+pub mod Columns
+pub mod Slants
+pub mod Drawn
+pub mod Claims

@@ -1,0 +1,70 @@
+-- `scanline::own` meets its contract. Assumes nothing.
+use mathlib.Core.Path.{refl}
+use Prim.Native.Nat.{_-_}
+use native.Mathlib.Omega.{arith}
+use lib.ListN.{length}
+use Rattle.scanline.specs.Lines.{ownIn}
+use Rattle.scanline.proofs.Drawn.{Drawn, drawn-none, drawn-more, drawn-all, undrawn}
+use Rattle.scanline.proofs.own.Statement.{statement}
+use Rattle.scanline.proofs.own.Tie as tie
+
+abbrev Inv-loop : tie.InvT-loop
+Inv-loop out₀ row x₀ out x = Drawn out₀ out x (ownIn row)
+
+abbrev μ-loop : tie.MeasureT-loop
+μ-loop out₀ row x₀ out x = length out₀ - x
+
+returns : tie.Need-returns Inv-loop μ-loop
+returns c = undrawn _ _ (c .if1 .taken)
+
+loop-holds : tie.Need-loop-holds Inv-loop μ-loop
+loop-holds c = drawn-none
+
+add-out : tie.Need-add-out Inv-loop μ-loop
+add-out c = omega arith
+
+mul-out : tie.Need-mul-out Inv-loop μ-loop
+mul-out c = omega arith
+
+element-copy-out-out : tie.Need-element-copy-out-out Inv-loop μ-loop
+element-copy-out-out c = omega arith
+
+mul-out-2 : tie.Need-mul-out-2 Inv-loop μ-loop
+mul-out-2 c = omega arith
+
+slice-write-out : tie.Need-slice-write-out Inv-loop μ-loop
+slice-write-out c = omega arith
+
+add-x : tie.Need-add-x Inv-loop μ-loop
+add-x c = omega arith
+
+loop-less : tie.Need-loop-less Inv-loop μ-loop
+loop-less c = omega arith
+
+loop-again : tie.Need-loop-again Inv-loop μ-loop
+loop-again c = drawn-more (c .before .before .loop .inv) (omega arith) refl
+
+same-length : tie.Need-same-length Inv-loop μ-loop
+same-length c = c .before .loop .inv .long
+
+returns-2 : tie.Need-returns-2 Inv-loop μ-loop
+returns-2 c = drawn-all (c .before .loop .inv) (omega arith) (omega arith)
+
+pub own-spec : {M : Type 1} → statement M
+own-spec =
+    tie.close
+    (tie.spec
+    Inv-loop
+    μ-loop
+    returns
+    loop-holds
+    add-out
+    mul-out
+    element-copy-out-out
+    mul-out-2
+    slice-write-out
+    add-x
+    loop-less
+    loop-again
+    same-length
+    returns-2)

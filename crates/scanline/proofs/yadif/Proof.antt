@@ -1,0 +1,62 @@
+-- `scanline::yadif` meets its contract. Assumes nothing.
+use Prim.Native.Nat.{_-_}
+use native.Mathlib.Omega.{arith}
+use borrow.Author.Needs.{needs}
+use lib.ListN.{length}
+use Rattle.scanline.specs.Lines.{yadifIn}
+use Rattle.scanline.proofs.Drawn.{Drawn, drawn-none, drawn-more, drawn-all, undrawn}
+use Rattle.scanline.proofs.yadif.Statement.{statement}
+use Rattle.scanline.proofs.yadif.Tie as tie
+
+abbrev Inv-loop : tie.InvT-loop
+Inv-loop out₀ above below earlier-up earlier earlier-down later-up later later-down x₀ out x = Drawn out₀ out x (yadifIn above below earlier-up earlier earlier-down later-up later later-down)
+
+abbrev μ-loop : tie.MeasureT-loop
+μ-loop out₀ above below earlier-up earlier earlier-down later-up later later-down x₀ out x = length out₀ - x
+
+returns : tie.Need-returns Inv-loop μ-loop
+returns c = undrawn _ _ (c .if1 .taken)
+
+loop-holds : tie.Need-loop-holds Inv-loop μ-loop
+loop-holds c = drawn-none
+
+yadif-at-requires : tie.Need-yadif-at-requires Inv-loop μ-loop
+yadif-at-requires c κs = search needs
+
+mul-out : tie.Need-mul-out Inv-loop μ-loop
+mul-out c = omega arith
+
+slice-write-out : tie.Need-slice-write-out Inv-loop μ-loop
+slice-write-out c = omega arith
+
+add-x : tie.Need-add-x Inv-loop μ-loop
+add-x c = omega arith
+
+loop-less : tie.Need-loop-less Inv-loop μ-loop
+loop-less c = omega arith
+
+loop-again : tie.Need-loop-again Inv-loop μ-loop
+loop-again c = drawn-more (c .before .before .loop .inv) (omega arith) (c .yadif-at .ensures)
+
+same-length : tie.Need-same-length Inv-loop μ-loop
+same-length c = c .before .loop .inv .long
+
+returns-2 : tie.Need-returns-2 Inv-loop μ-loop
+returns-2 c = drawn-all (c .before .loop .inv) (omega arith) (omega arith)
+
+pub yadif-spec : {M : Type 1} → statement M
+yadif-spec =
+    tie.close
+    (tie.spec
+    Inv-loop
+    μ-loop
+    returns
+    loop-holds
+    yadif-at-requires
+    mul-out
+    slice-write-out
+    add-x
+    loop-less
+    loop-again
+    same-length
+    returns-2)

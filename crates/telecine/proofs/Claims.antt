@@ -1,0 +1,159 @@
+-- The claims of specs/Claims.antt. Assumes nothing.
+use Prim.Native.Nat.{ℕ, zero, suc, _+_, min}
+use native.Mathlib.Omega.{arith}
+use mathlib.Core.Path.{_≡_, refl, ap, ap₂, _∙_}
+use mathlib.Core.Bool.{Bool, true, false, cond}
+use mathlib.Core.List.{List, [], _∷_, _++_}
+use lib.Dec.{eqb}
+use lib.ListN.{length}
+use borrow.Author.Tests.{ltb-true, lt-ltb, ne-eqb}
+use Rattle.laws.specs.Refusal.{rising}
+use Rattle.laws.proofs.Claims.{lowest-says}
+use Rattle.pulldown.specs.declared.Symbol.{Symbol}
+use Rattle.pulldown.specs.declared.Seen.{Seen}
+use Rattle.pulldown.specs.declared.Seen.the-variants as seen
+use Rattle.pulldown.specs.Runs.{phaseOf, cadenceBy}
+use Rattle.pulldown.specs.Claims as lock
+use Rattle.pulldown.proofs.Claims.{third, foretold-by, answer-settled, phase-says}
+use Rattle.pulldown.proofs.Claims as lock-proofs
+use Rattle.telecine.specs.Detector.{measuredTests, pushTests}
+use Rattle.telecine.specs.History.{Push, picture, measured, Call, push, reset, State, next, after, numberOf, cadenceOf, lastPicture, lastParity, seenOf, seens, framesOf, runOf, refusalTests, refusalOf, taken}
+use Rattle.telecine.specs.Claims.{ThirdDemand, Contradicts, Runs, RefusalKnown, RefusalSays, PushSays, MeasuredSays, RefusedLeaves, RefusedCountsNothing}
+use Rattle.telecine.specs.Claims.{LockedSays, PredictSays, ResetForgets, ResetIsFresh, PushedSettled}
+use Rattle.telecine.proofs.Held.{number-known, cadence-known, any-held, few}
+use Rattle.telecine.proofs.Held as held
+
+-- ---- demand 3
+module _ (store : List ℕ) (u : Push) (calls : List Call) where
+  abbrev known : List Call
+  known = taken (length store) calls
+
+  cadence-is : cadenceOf store u calls ≡ cadenceBy (phaseOf (runOf (push u ∷ known))) (framesOf known)
+  cadence-is = cadence-known (length store) (after store calls) known (any-held store calls) u
+
+pub third-demand : ThirdDemand
+third-demand store u earlier e = rw (cadence-is store u earlier) (third _ _)
+
+-- ---- runs
+module _ (u : Push) (earlier : List Call) where
+  same-contradiction : (s : Symbol) → seenOf u earlier ≡ seen.Symbol s → lock.Contradicts s (seens earlier) → Contradicts u earlier
+  same-contradiction s e c = record { symbol = s; compared = e; p = c .p; below = c .below; met = c .met; neither = c .neither }
+
+  contradicting : Contradicts u earlier → runOf (push u ∷ earlier) ≡ []
+  contradicting c =
+      rw (c .compared)
+      (lock-proofs.runs (c .symbol) (seens earlier) .contradicting (record { p = c .p; below = c .below; met = c .met; neither = c .neither }))
+
+pub runs : Runs
+runs u earlier = record {
+  fresh = refl;
+  anew = refl;
+  not-comparable = λ e. rw e;
+  contradicting = contradicting u earlier;
+  longer = λ s e none. rw e (lock-proofs.runs s (seens earlier) .longer (λ c. none (same-contradiction u earlier s e c)));
+}
+
+-- ---- refusals
+pub refusal-known : RefusalKnown
+refusal-known store u earlier = number-known (length store) (after store earlier) (taken (length store) earlier) (any-held store earlier) u
+
+pub refusal-says : RefusalSays
+unfolding rising
+refusal-says room (picture plane s first) earlier = lowest-says (refusalTests room (picture plane s first) earlier) tt
+refusal-says room (measured first m) earlier = lowest-says (refusalTests room (measured first m) earlier) tt
+
+pub push-says : PushSays
+unfolding rising
+push-says d s bytes room = lowest-says (pushTests d s bytes room) tt
+
+pub measured-says : MeasuredSays
+unfolding rising
+measured-says d = lowest-says (measuredTests d) tt
+
+pub refused-leaves : RefusedLeaves
+refused-leaves = held.refused-leaves
+
+one-call : (store : List ℕ) (u : Push) (earlier : List Call) (n : ℕ) → numberOf store u earlier ≡ n
+    → after store earlier ≡ after store (taken (length store) earlier)
+    → next (after store earlier) (push u) ≡ after store (cond (eqb n 0) (push u ∷ taken (length store) earlier) (taken (length store) earlier))
+one-call store u earlier zero e same = ap (λ (state : State). next state (push u)) same
+one-call store u earlier (suc n) e same =
+    rw (ne-eqb (suc n) 0 (omega arith)) (held.refused-leaves (after store earlier) u (λ z. omega arith) ∙ same)
+
+pub refused-counts-nothing : RefusedCountsNothing
+refused-counts-nothing store [] = refl
+refused-counts-nothing store (push u ∷ earlier) =
+    one-call store u earlier (refusalOf (length store) u (taken (length store) earlier)) (refusal-known store u earlier)
+    (refused-counts-nothing store earlier)
+refused-counts-nothing store (reset ∷ earlier) = ap (λ (state : State). next state reset) (refused-counts-nothing store earlier)
+
+-- ---- `locked` and `predict`
+pub locked-says : LockedSays
+locked-says store calls =
+    let run = runOf (taken (length store) calls) in
+    rw (any-held store calls .lock .phase) (
+      λ e. (phaseOf run, ltb-true _ _ e, phase-says run .0 (phaseOf run) (ltb-true _ _ e) .0 refl),
+      λ m. rw (phase-says run .0 (m .0) (m .1) .1 (m .2)) (lt-ltb (m .0) 5 (m .1)),
+    )
+
+pub predict-says : PredictSays
+predict-says store calls ahead =
+    let known = taken (length store) calls in
+    let h = any-held store calls .lock in
+    let n : min (after store calls .detector .lock .taken) 4000000000 ≡ framesOf known = omega (arith, h .taken, few (length store) calls) in
+    rw n (foretold-by (after store calls .detector .lock) (seens known) (framesOf known + ahead) h)
+
+-- ---- resets
+
+-- two histories that no later call can tell apart
+record Same (a b : List Call) : Type 0 where
+  seen : seens a ≡ seens b
+  picture : lastPicture a ≡ lastPicture b
+  parity : lastParity a ≡ lastParity b
+
+same-frame : (u : Push) (a b : List Call) → Same a b → seenOf u a ≡ seenOf u b
+same-frame (picture plane s first) a b h = rw (h .picture)
+same-frame (measured first m) a b h = rw (h .parity)
+
+same-refusal : (room : ℕ) (u : Push) (a b : List Call) → Same a b → refusalOf room u a ≡ refusalOf room u b
+same-refusal room (picture plane s first) a b h = rw (h .seen)
+same-refusal room (measured first m) a b h = rw (h .seen)
+
+same-seens : (u : Push) (a b : List Call) → Same a b → seens (push u ∷ a) ≡ seens (push u ∷ b)
+same-seens u a b h = ap₂ (λ (s : Seen) (earlier : List Seen). s ∷ earlier) (same-frame u a b h) (h .seen)
+
+same-push : (u : Push) (a b : List Call) → Same a b → Same (push u ∷ a) (push u ∷ b)
+same-push (picture plane s first) a b h = record { seen = same-seens (picture plane s first) a b h; picture = refl; parity = refl }
+same-push (measured first m) a b h = record { seen = same-seens (measured first m) a b h; picture = h .picture; parity = refl }
+
+same-if : (u : Push) (a b : List Call) (test : Bool) → Same a b → Same (cond test (push u ∷ a) a) (cond test (push u ∷ b) b)
+same-if u a b true h = same-push u a b h
+same-if u a b false h = h
+
+same-taken : (room : ℕ) (u : Push) (a b : List Call) → Same a b
+    → Same (cond (eqb (refusalOf room u a) 0) (push u ∷ a) a) (cond (eqb (refusalOf room u b) 0) (push u ∷ b) b)
+same-taken room u a b h = rw (same-refusal room u a b h) (same-if u a b (eqb (refusalOf room u b) 0) h)
+
+module _ (room : ℕ) (earlier before : List Call) (parity : lastParity (taken room earlier) ≡ lastParity (taken room before)) where
+  same-later : (later : List Call) → Same (taken room (later ++ (reset ∷ earlier))) (taken room (later ++ (reset ∷ before)))
+  same-later [] = record { seen = refl; picture = refl; parity = parity }
+  same-later (push u ∷ later) =
+      same-taken room u (taken room (later ++ (reset ∷ earlier))) (taken room (later ++ (reset ∷ before))) (same-later later)
+  same-later (reset ∷ later) = record { seen = refl; picture = refl; parity = same-later later .parity }
+
+pub reset-forgets : ResetForgets
+reset-forgets store other u later earlier before long parity =
+    let a = later ++ (reset ∷ earlier) in
+    let b = later ++ (reset ∷ before) in
+    let h = same-later (length other) earlier before (rw long at parity) later in (
+      rw (refusal-known store u a, refusal-known other u b, long) (same-refusal (length other) u (taken (length other) a) (taken (length other) b) h),
+      rw (cadence-is store u a, cadence-is other u b, long, same-seens u (taken (length other) a) (taken (length other) b) h, h .seen),
+    )
+
+pub reset-is-fresh : ResetIsFresh
+reset-is-fresh d none = rw none
+
+-- ---- results
+pub pushed-settled : PushedSettled
+pushed-settled a b same number values =
+    λ i. record { detector = same i; answer = answer-settled (a .answer) (b .answer) number values i }

@@ -1,0 +1,40 @@
+-- `telecine::picture_no` meets its contract. Assumes nothing.
+use Rattle.laws.specs.Refusal.{lowest}
+use borrow.Author.Needs.{needs}
+use Rattle.telecine.proofs.picture_no.Statement.{statement}
+use Rattle.telecine.proofs.picture_no.Tie as tie
+
+good-shape-requires : tie.Need-good-shape-requires
+good-shape-requires c κs = search needs
+
+plane-bytes-requires : tie.Need-plane-bytes-requires
+plane-bytes-requires c κs = search needs
+
+kept-bytes-requires : tie.Need-kept-bytes-requires
+kept-bytes-requires c κs = search needs
+
+frame-bytes-requires : tie.Need-frame-bytes-requires
+frame-bytes-requires c κs = search needs
+
+lowest-of-requires : tie.Need-lowest-of-requires
+lowest-of-requires c κs = search needs
+
+returns : tie.Need-returns
+unfolding lowest
+returns c =
+    let size = c .before in
+    let kept = size .before in
+    let long = kept .before in
+    let good = long .before in
+    simp (c .lowest-of .ensures, size .frame-bytes .ensures, kept .kept-bytes .ensures, long .plane-bytes .ensures, good .good-shape .ensures)
+
+pub picture-no-spec : {M : Type 1} → statement M
+picture-no-spec =
+    tie.close
+    (tie.spec
+    good-shape-requires
+    plane-bytes-requires
+    kept-bytes-requires
+    frame-bytes-requires
+    lowest-of-requires
+    returns)

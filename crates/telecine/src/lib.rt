@@ -1,0 +1,279 @@
+// Copyright 2026 Till0196
+// SPDX-License-Identifier: Apache-2.0
+// Carried over from core/src/output/video/telecine.rs (`Detector`), and changed: the detector goes in and
+// comes back by value; window, lock and numbers of frames are `pulldown::Lock`; of the kept frame the
+// detector has the shape, and a lent store the samples; frames and looks ahead are bounded, and what
+// cannot be taken is refused by number.
+//
+// The detector of 2:3 pulldown: pictures with a lent store, counts that were measured elsewhere, resets.
+// Assumes nothing.
+ghost use mathlib.Core.Path.{_≡_};
+ghost use mathlib.Core.Bool.{_&&_};
+ghost use mathlib.Core.List.{[], _∷_};
+ghost use Prim.Native.Nat.{_*_};
+ghost use lib.Dec.{leb};
+ghost use lib.ListN.{length};
+ghost use Rattle.laws.specs.Refusal.{lowest, whenDone};
+ghost use Rattle.field.specs.Field.{firstRowOf};
+ghost use Rattle.plane.specs.Plane.{goodShape, planeBytes};
+ghost use Rattle.block.specs.Answer.{countNo, countsOf};
+ghost use Rattle.pulldown.specs.Lock.{answerNo, answerValues, lockedOf, predictNo, predictCadence};
+ghost use Rattle.telecine.specs.Detector.{nothingKept, freshDetector, resetOf, sameParity, ledBy, seenMeasured, comparable, seenPicture, measuredNo, measuredCadence, measuredDetector, keptBytes, pushNo, pushCadence, pushDetector, pushStore};
+use block::Counted;
+use block::Counts;
+use field::Chosen;
+use field::Parity;
+use plane::Shape;
+use pulldown::Answer;
+use pulldown::Lock;
+use pulldown::Seen;
+
+// The shape of the frame that the store keeps. Where none is held, the rest says nothing.
+pub struct Kept {
+    pub held: bool,
+    pub width: u16,
+    pub height: u16,
+    // The field that leads.
+    pub first: Parity,
+}
+
+pub struct Detector {
+    pub lock: Lock,
+    pub kept: Kept,
+    // The field that led in the last frame of either kind, which a reset does not forget.
+    pub last: Chosen,
+}
+
+// Counts of the leading field, then of the trailing. The trailing field's total is not looked at.
+pub enum Measured {
+    Absent,
+    Counts(Counts, Counts),
+}
+
+pub struct Pushed {
+    pub detector: Detector,
+    pub answer: Answer,
+}
+
+fn same_parity(a: Parity, b: Parity) -> bool
+    ensures { λ r. ⌜ r ≡ sameParity a b ⌝ }
+{
+    a.first_row() == b.first_row()
+}
+
+fn led_by(last: Chosen, first: Parity) -> bool
+    ensures { λ r. ⌜ r ≡ ledBy last first ⌝ }
+{
+    match last {
+        Chosen::Field(parity) => same_parity(parity, first),
+        Chosen::Neither => false,
+    }
+}
+
+// What counts tell of a frame that comes after one led by `last`.
+fn seen_measured(last: Chosen, first: Parity, measured: Measured) -> Seen
+    ensures { λ r. ⌜ r ≡ seenMeasured last first measured ⌝ }
+{
+    match measured {
+        Measured::Absent => Seen::NotComparable,
+        Measured::Counts(leading, trailing) => {
+            if led_by(last, first) {
+                return Seen::Symbol(pulldown::classify_counts(
+                    leading.busy,
+                    leading.total,
+                    trailing.busy,
+                ));
+            }
+            Seen::NotComparable
+        }
+    }
+}
+
+// Whether a picture can be compared with the kept frame.
+fn can_compare(kept: Kept, shape: Shape, first: Parity) -> bool
+    ensures { λ r. ⌜ r ≡ comparable kept shape first ⌝ }
+{
+    let led = kept.first;
+    kept.held
+        & ((kept.width == shape.width)
+            & (kept.height == shape.height)
+            & same_parity(led, first)
+            & (shape.height != 1))
+}
+
+// The counts of a field against the kept frame, of a picture that passes the tests of `block::count`.
+fn counts_of(plane: &[u8], shape: Shape, store: &[u8], parity: Parity) -> Counts
+    requires { ⌜ countNo shape (length (now plane)) (length (now store)) ≡ 0 ⌝ }
+    ensures { λ r. ⌜ r ≡ countsOf (now (plane .entry)) shape (now (store .entry)) (firstRowOf parity) ⌝ }
+{
+    let counted = block::count(plane, shape, store, parity);
+    match counted {
+        Counted::Value(counts) => counts,
+        Counted::Refused(_) => Counts { busy: 0, total: 0 },
+    }
+}
+
+// What a picture shows against the kept frame.
+fn seen_picture(kept: Kept, store: &[u8], plane: &[u8], shape: Shape, first: Parity) -> Seen
+    requires { ⌜ countNo shape (length (now plane)) (length (now store)) ≡ 0 ⌝ }
+    ensures { λ r. ⌜ r ≡ seenPicture kept (now (store .entry)) (now (plane .entry)) shape first ⌝ }
+{
+    if can_compare(kept, shape, first) {
+        let leading = counts_of(plane, shape, store, first);
+        let trailing = counts_of(plane, shape, store, first.other());
+        return Seen::Symbol(pulldown::classify_counts(leading.busy, leading.total, trailing.busy));
+    }
+    Seen::NotComparable
+}
+
+fn frame_bytes(height: u16, width: u16) -> usize
+    ensures { λ r. ⌜ r ≡ height * width ⌝ }
+{
+    (height as usize) * (width as usize)
+}
+
+fn kept_bytes(kept: Kept) -> usize
+    ensures { λ r. ⌜ r ≡ keptBytes kept ⌝ }
+{
+    if kept.held {
+        frame_bytes(kept.height, kept.width)
+    } else {
+        0
+    }
+}
+
+// What refuses a picture, apart from the number of frames: 4, 6 or 7.
+fn picture_no(kept: Kept, shape: Shape, bytes: usize, room: usize) -> u8
+    ensures { λ r. ⌜ r ≡ lowest ((4, goodShape shape) ∷ (6, leb (planeBytes shape) bytes && leb (keptBytes kept) room) ∷ (7, leb (shape .height * shape .width) room) ∷ []) ⌝ }
+{
+    let good = plane::good_shape(shape);
+    let long = plane::plane_bytes(shape) <= bytes;
+    let held = kept_bytes(kept) <= room;
+    let fits = frame_bytes(shape.height, shape.width) <= room;
+    plane::refusal::lowest_of(true, good, true, long & held, fits, true)
+}
+
+fn nothing_kept() -> Kept
+    ensures { λ r. ⌜ r ≡ nothingKept ⌝ }
+{
+    Kept {
+        held: false,
+        width: 0,
+        height: 0,
+        first: Parity::Top,
+    }
+}
+
+impl Detector {
+    pub fn new() -> Detector
+        ensures { λ r. ⌜ r ≡ freshDetector ⌝ }
+    {
+        let lock = Lock::new();
+        let kept = nothing_kept();
+        Detector {
+            lock: lock,
+            kept: kept,
+            last: Chosen::Neither,
+        }
+    }
+
+    // Forgets the kept frame and every frame's symbol, but not the last parity.
+    pub fn reset(self) -> Detector
+        ensures { λ r. ⌜ r ≡ resetOf self ⌝ }
+    {
+        let old = self.lock;
+        let last = self.last;
+        let lock = old.reset();
+        let kept = nothing_kept();
+        Detector {
+            lock: lock,
+            kept: kept,
+            last: last,
+        }
+    }
+
+    pub fn locked(self) -> bool
+        ensures { λ r. ⌜ r ≡ lockedOf (self .lock) ⌝ }
+    {
+        let lock = self.lock;
+        lock.locked()
+    }
+
+    // The cadence of the frame that comes after `ahead` others, as far as the lock tells it.
+    pub fn predict(self, ahead: u64) -> Answer
+        ensures { λ r. ⌜ (answerNo r ≡ predictNo ahead) × (answerValues r ≡ whenDone (predictNo ahead) (predictCadence (self .lock) ahead)) ⌝ }
+    {
+        let lock = self.lock;
+        lock.predict(ahead)
+    }
+
+    // Takes counts. The kept frame stays.
+    pub fn push_measured(self, first: Parity, measured: Measured) -> Pushed
+        ensures { λ r. ⌜ (r .detector ≡ measuredDetector self first measured) × (answerNo (r .answer) ≡ measuredNo self) × (answerValues (r .answer) ≡ whenDone (measuredNo self) (measuredCadence self first measured)) ⌝ }
+    {
+        let last = self.last;
+        let kept = self.kept;
+        let old = self.lock;
+        let pushed = old.push(seen_measured(last, first, measured));
+        let answer = pushed.answer;
+        let lock = pushed.lock;
+        match answer {
+            Answer::Gave(cadence) => Pushed {
+                detector: Detector {
+                    lock: lock,
+                    kept: kept,
+                    last: Chosen::Field(first),
+                },
+                answer: Answer::Gave(cadence),
+            },
+            Answer::Refused(no) => Pushed {
+                detector: self,
+                answer: Answer::Refused(no),
+            },
+        }
+    }
+
+    // Takes a picture: compares it with the frame that the store keeps, and then keeps it there.
+    pub fn push(self, plane: &[u8], shape: Shape, first: Parity, store: &mut [u8]) -> Pushed
+        ensures { λ r. ⌜ (r .detector ≡ pushDetector self (now (store .entry)) (now (plane .entry)) shape first)
+            × (answerNo (r .answer) ≡ pushNo self shape (length (now (plane .entry))) (length (now (store .entry))))
+            × (answerValues (r .answer) ≡ whenDone (pushNo self shape (length (now (plane .entry))) (length (now (store .entry)))) (pushCadence self (now (store .entry)) (now (plane .entry)) shape first))
+            × (now (store .exit) ≡ pushStore self (now (store .entry)) (now (plane .entry)) shape) ⌝ }
+    {
+        let kept = self.kept;
+        let no = picture_no(kept, shape, plane.len(), store.len());
+        if no != 0 {
+            return Pushed {
+                detector: self,
+                answer: Answer::Refused(no),
+            };
+        }
+        let seen = seen_picture(kept, store, plane, shape, first);
+        let old = self.lock;
+        let pushed = old.push(seen);
+        let answer = pushed.answer;
+        let lock = pushed.lock;
+        match answer {
+            Answer::Gave(cadence) => {
+                block::keep(store, plane, shape);
+                Pushed {
+                    detector: Detector {
+                        lock: lock,
+                        kept: Kept {
+                            held: true,
+                            width: shape.width,
+                            height: shape.height,
+                            first: first,
+                        },
+                        last: Chosen::Field(first),
+                    },
+                    answer: Answer::Gave(cadence),
+                }
+            }
+            Answer::Refused(full) => Pushed {
+                detector: self,
+                answer: Answer::Refused(full),
+            },
+        }
+    }
+}
