@@ -14,11 +14,13 @@
 mod colours;
 mod combs;
 mod fields;
+mod filters;
 mod planes;
 mod refusal;
 
 pub use colours::{Conversion, luma, luma_of, quantise, rgb_of, to_rgb};
 pub use combs::{comb, comb_of, comb_rgba, comb_rgba_of};
 pub use fields::{Parity, first_field, first_parity};
+pub use filters::{edge, plane, sample, slant_of};
 pub use planes::{PlaneNumbers, at, code, code_of, value_of};
 pub use refusal::Refusal;

@@ -16,6 +16,12 @@ pub trait Case: Clone + fmt::Debug {
     /// Inputs that are simpler than this one, the simplest first. They must
     /// not lead back to this one.
     fn smaller(&self) -> Vec<Self>;
+
+    /// How many inputs it compares, if it is a stretch of them, all with the
+    /// same number.
+    fn inputs(&self) -> u64 {
+        1
+    }
 }
 
 /// In what the two sides differ, and what each of them said.
@@ -79,7 +85,7 @@ impl Tally {
         let mut numbers = BTreeMap::new();
         for case in cases {
             match judged(&case) {
-                Ok(number) => *numbers.entry(number).or_default() += 1,
+                Ok(number) => *numbers.entry(number).or_default() += case.inputs(),
                 Err(difference) => {
                     let (case, difference) = smallest(case, difference);
                     return Err(Failure::Differs {

@@ -23,8 +23,81 @@ pub enum Contents {
     Ends(u64),
     /// Rows of 0 and rows of 255 in turn: the largest comb.
     Stripes,
+    /// Codes that make a picture, from this seed. They stand so many bits
+    /// further up, as those of a biplanar frame do.
+    Picture { kind: Kind, seed: u64, up: u32 },
     /// These bytes, then zeros.
     Listed(Vec<u8>),
+}
+
+/// Pictures in which directions tie, or nearly do.
+#[derive(Debug, Clone, Copy, PartialEq, Eq)]
+pub enum Kind {
+    /// One code.
+    Flat,
+    /// So much more with each column and each row, wrapping around.
+    Ramp,
+    /// A short pattern, repeated along a slant: often two slants match alike.
+    Slant,
+    /// Two, three or four codes, in any order.
+    Few,
+    /// One code, and on it noise about as large as the bias against slants.
+    Calm,
+    /// Two rows near 0 and two near 65,535 in turn, past the depth: between
+    /// them the scores are so large that the bias is rounded, and may tie.
+    Over,
+}
+
+const KINDS: [Kind; 6] = [
+    Kind::Flat,
+    Kind::Ramp,
+    Kind::Slant,
+    Kind::Few,
+    Kind::Calm,
+    Kind::Over,
+];
+
+impl Kind {
+    /// The code at any place of a picture with codes from 0 to `most`.
+    fn painter(self, seed: u64, most: u64) -> Box<dyn FnMut(i64, i64) -> u64> {
+        let mut random = Random::new(seed);
+        let codes = most + 1;
+        let ground = random.below(codes);
+        match self {
+            Self::Flat => Box::new(move |_, _| ground),
+            Self::Ramp => {
+                let steep = *random.pick(&[2, 5, 40, codes]);
+                let mut slope = || random.below(2 * steep + 1) as i64 - steep as i64;
+                let (across, down) = (slope(), slope());
+                Box::new(move |x, y| {
+                    (ground as i64 + across * x + down * y).rem_euclid(codes as i64) as u64
+                })
+            }
+            Self::Slant => {
+                let levels = [random.below(codes), random.below(codes), ground];
+                let period = random.between(2, 9) as i64;
+                let slope = random.between(0, 8) as i64 - 4;
+                let pattern: Vec<u64> = (0..period).map(|_| *random.pick(&levels)).collect();
+                Box::new(move |x, y| pattern[(x + slope * y).rem_euclid(period) as usize])
+            }
+            Self::Few => {
+                let count = random.between(2, 4) as usize;
+                let levels = [0; 4].map(|_| random.below(codes));
+                Box::new(move |_, _| *random.pick(&levels[..count]))
+            }
+            Self::Calm => {
+                let above = random.between(1, 1 + codes / 200);
+                Box::new(move |_, _| (ground + random.below(above + 1)).min(most))
+            }
+            Self::Over => {
+                let noise = random.between(2, 4);
+                Box::new(move |_, y| match y % 4 {
+                    0 | 1 => random.below(noise),
+                    _ => 65_535 - random.below(noise),
+                })
+            }
+        }
+    }
 }
 
 /// A failing input of at most so many bytes is printed byte by byte.
@@ -37,6 +110,24 @@ impl Contents {
             2 => Self::Ends(random.next()),
             3 => Self::Stripes,
             _ => Self::Within(random.next()),
+        }
+    }
+
+    /// Mostly pictures, for a plane of this depth and layout.
+    pub fn picture(random: &mut Random, shape: PlaneNumbers) -> Self {
+        if random.one_in(4) {
+            return Self::random(random);
+        }
+        // A depth or a layout past its bounds needs contents as well.
+        let depth = shape.depth.clamp(8, 16);
+        Self::Picture {
+            kind: *random.pick(&KINDS),
+            seed: random.next(),
+            up: if depth > 8 && shape.layout > 0 {
+                16 - depth
+            } else {
+                0
+            },
         }
     }
 
@@ -67,6 +158,20 @@ impl Contents {
                 let mut bytes = vec![0; length];
                 for row in bytes.chunks_mut(stride.max(1)).skip(1).step_by(2) {
                     row.fill(255);
+                }
+                bytes
+            }
+            Self::Picture { kind, seed, up } => {
+                let depth = depth.clamp(8, 16);
+                let mut code = kind.painter(*seed, (1 << depth) - 1);
+                let mut bytes = vec![0; length];
+                for (y, row) in bytes.chunks_mut(stride.max(1)).enumerate() {
+                    let size = if depth > 8 { 2 } else { 1 };
+                    for (x, sample) in row.chunks_mut(size).enumerate() {
+                        let code = code(x as i64, y as i64) << up;
+                        let count = sample.len();
+                        sample.copy_from_slice(&code.to_le_bytes()[..count]);
+                    }
                 }
                 bytes
             }
@@ -174,14 +279,33 @@ impl Given {
         &self.sides().rust
     }
 
+    /// With another shape, as long or as much too short as this one is.
+    fn length_for(&self, shape: PlaneNumbers) -> Option<usize> {
+        let short = self.length as i128 - i128::from(judge::needed(self.shape));
+        usize::try_from(i128::from(judge::needed(shape)) + short).ok()
+    }
+
+    /// This plane with another size and depth, and the padding that it has.
+    pub fn resized(&self, width: u32, height: u32, depth: u32) -> Option<Self> {
+        let mut shape = PlaneNumbers {
+            width,
+            height,
+            depth,
+            ..self.shape
+        };
+        let padding = i64::from(self.shape.stride) - judge::row(self.shape) as i64;
+        shape.stride = u32::try_from(judge::row(shape) as i64 + padding).ok()?;
+        let length = self.length_for(shape)?;
+        let length = (length <= self.length).then_some(length)?;
+        Some(Self::new(shape, length, self.contents.clone()))
+    }
+
     /// Planes of smaller numbers, fewer bytes or simpler contents.
     pub fn smaller(&self) -> Vec<Self> {
         let mut found = Vec::new();
-        let short = self.length as i128 - i128::from(judge::needed(self.shape));
         for shape in smaller_shapes(self.shape) {
             // As long, or as much too short, as it was; then the bytes as they are.
-            let alike = i128::from(judge::needed(shape)) + short;
-            let lengths = [usize::try_from(alike).ok(), Some(self.length)];
+            let lengths = [self.length_for(shape), Some(self.length)];
             for length in lengths.into_iter().flatten() {
                 if length <= self.length {
                     found.push(Self::new(shape, length, self.contents.clone()));
@@ -299,12 +423,12 @@ pub fn random(random: &mut Random, most_width: u32, most_height: u32, layouts: u
 }
 
 /// Around the bounds, and around the ends of 16 and of 32 bits.
-const EDGES_OF_WIDTH: &[u32] = &[0, 1, 2, 8191, 8192, 8193, 65_535, 65_536, u32::MAX];
-const EDGES_OF_HEIGHT: &[u32] = &[0, 1, 2, 4351, 4352, 4353, 65_535, 65_536, u32::MAX];
+pub const EDGES_OF_WIDTH: &[u32] = &[0, 1, 2, 8191, 8192, 8193, 65_535, 65_536, u32::MAX];
+pub const EDGES_OF_HEIGHT: &[u32] = &[0, 1, 2, 4351, 4352, 4353, 65_535, 65_536, u32::MAX];
 
 /// One of the edges, or the size past 16 bits, which would be the size itself
 /// if it were cut to them.
-fn edge_of(random: &mut Random, size: u32, edges: &[u32]) -> u32 {
+pub fn edge_of(random: &mut Random, size: u32, edges: &[u32]) -> u32 {
     if random.one_in(10) {
         65_536 + size
     } else {

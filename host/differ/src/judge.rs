@@ -3,7 +3,7 @@
 //! document 01 is the judge here ("Planes", "What the desk gets back"), written
 //! out once more, apart from the proved code and its statements.
 
-use desk::PlaneNumbers;
+use desk::{Conversion, PlaneNumbers};
 
 /// The lowest number whose condition holds; 0 where none does.
 fn lowest(conditions: &[(u8, bool)]) -> u8 {
@@ -72,6 +72,99 @@ pub fn code(shape: PlaneNumbers, length: usize, x: i32, y: i32) -> u8 {
     read(shape, length, outside)
 }
 
+/// As of `at`: a place of a missing row may be outside the plane too.
+pub fn edge(shape: PlaneNumbers, length: usize, x: i32, y: i32) -> u8 {
+    at(shape, length, x, y)
+}
+
+/// A shape and the bytes that are lent for it.
+pub type Lent = (PlaneNumbers, usize);
+
+/// What holds of the planes before, now and after: "The three planes [...] must
+/// agree in width, height and depth".
+fn three(planes: [Lent; 3]) -> [(u8, bool); 4] {
+    let size = |(shape, _): Lent| (shape.width, shape.height, shape.depth);
+    [
+        (3, planes.iter().any(|(shape, _)| shape.layout > 3)),
+        (4, !planes.iter().all(|(shape, _)| in_bounds(*shape))),
+        (
+            5,
+            planes.iter().any(|plane| size(*plane) != size(planes[0])),
+        ),
+        (
+            6,
+            planes
+                .iter()
+                .any(|(shape, length)| (*length as u64) < needed(*shape)),
+        ),
+    ]
+}
+
+/// "The quality is one of Weave, Bob, Yadif, Bwdif; `first` is 0 or 1, `mate` 0,
+/// 1 or 2 (none)."
+pub fn sample(quality: u8, planes: [Lent; 3], first: u32, mate: u32, x: i32, y: i32) -> u8 {
+    let taken = -65_536..=65_536;
+    let [code, shape, size, length] = three(planes);
+    lowest(&[
+        (3, quality > 3 || first > 1 || mate > 2),
+        (3, !taken.contains(&x) || !taken.contains(&y)),
+        code,
+        shape,
+        size,
+        length,
+    ])
+}
+
+/// Floats that a plane of this shape has; of any numbers.
+pub fn floats(shape: PlaneNumbers) -> u64 {
+    u64::from(shape.width) * u64::from(shape.height)
+}
+
+/// As of `sample`, without a mate; and "a lent output or store is too short for
+/// what the call writes".
+pub fn plane(quality: u8, first: u8, planes: [Lent; 3], out: usize) -> u8 {
+    let [code, shape, size, length] = three(planes);
+    lowest(&[
+        (3, quality > 3 || first > 1),
+        code,
+        shape,
+        size,
+        length,
+        (7, (out as u64) < floats(planes[1].0)),
+    ])
+}
+
+/// "Each of the nine numbers is within -16..16; `kr` and `kb` lie in 0..0.4375.
+/// The three samples lie in 0..256." No NaN lies anywhere; -0.0 is 0.
+pub fn to_rgb(conversion: Conversion, samples: [f32; 3]) -> u8 {
+    let Conversion {
+        luma_offset,
+        luma_gain,
+        chroma_offset,
+        chroma_gain,
+        kr,
+        kb,
+        luma_lift,
+        chroma_cos,
+        chroma_sin,
+    } = conversion;
+    let nine = [
+        luma_offset,
+        luma_gain,
+        chroma_offset,
+        chroma_gain,
+        kr,
+        kb,
+        luma_lift,
+        chroma_cos,
+        chroma_sin,
+    ];
+    let within = nine.iter().all(|number| (-16.0..=16.0).contains(number))
+        && [kr, kb].iter().all(|k| (0.0..=0.4375).contains(k))
+        && samples.iter().all(|sample| (0.0..=256.0).contains(sample));
+    lowest(&[(8, !within)])
+}
+
 /// Comb takes the numbers of a planar shape.
 pub fn comb(shape: PlaneNumbers, length: usize) -> u8 {
     lowest(&[(4, !in_bounds(shape)), (6, (length as u64) < needed(shape))])
@@ -89,8 +182,8 @@ pub fn comb_rgba(width: u32, height: u32, length: usize) -> u8 {
 
 #[cfg(test)]
 mod tests {
-    use super::{at, code, comb, comb_rgba, needed};
-    use desk::PlaneNumbers;
+    use super::{at, code, comb, comb_rgba, edge, needed, plane, sample, to_rgb};
+    use desk::{Conversion, PlaneNumbers};
 
     const GOOD: PlaneNumbers = PlaneNumbers {
         width: 3,
@@ -118,6 +211,62 @@ mod tests {
         assert_eq!((at(unnamed, 0, 0, 0), code(unnamed, 0, 0, 0)), (3, 3));
         let empty = PlaneNumbers { width: 0, ..GOOD };
         assert_eq!((at(empty, 99, 0, 0), code(empty, 99, 0, 0)), (4, 3));
+    }
+
+    #[test]
+    fn of_three_planes_the_lowest_number_is_given() {
+        let planar = PlaneNumbers { layout: 0, ..GOOD };
+        let asked = |planes, first, mate, x| sample(2, planes, first, mate, x, -3);
+        let lent = [(GOOD, 25), (planar, 25), (GOOD, 99)];
+        assert_eq!(asked(lent, 1, 2, 65_536), 0);
+        assert_eq!(asked(lent, 2, 2, 0), 3);
+        assert_eq!(asked(lent, 1, 3, 0), 3);
+        assert_eq!(asked(lent, 1, 2, 65_537), 3);
+        assert_eq!(sample(4, lent, 1, 2, 0, 0), 3);
+        assert_eq!((plane(3, 1, lent, 6), plane(3, 1, lent, 5)), (0, 7));
+        assert_eq!((plane(4, 1, lent, 5), plane(3, 2, lent, 5)), (3, 3));
+        let mut short = lent;
+        short[2].1 = 24;
+        assert_eq!(plane(3, 1, short, 5), 6);
+        assert_eq!(asked(short, 1, 2, 0), 6);
+        // A planar row is shorter.
+        short = lent;
+        short[1].1 = 19;
+        assert_eq!(asked(short, 1, 2, 0), 0);
+        short[1].1 = 18;
+        assert_eq!(asked(short, 1, 2, 0), 6);
+        short[0].0.width = 2;
+        assert_eq!(asked(short, 1, 2, 0), 5);
+        short[1].0.stride = 5;
+        assert_eq!(asked(short, 1, 2, 0), 4);
+        short[2].0.layout = 4;
+        assert_eq!(asked(short, 1, 2, 0), 3);
+        assert_eq!((edge(GOOD, 25, 9, 9), edge(GOOD, 24, 9, 9)), (0, 6));
+    }
+
+    #[test]
+    fn each_colour_number_is_judged_on_both_sides() {
+        let ends = Conversion {
+            luma_offset: 16.0,
+            luma_gain: -16.0,
+            chroma_offset: 0.0,
+            chroma_gain: 1.0,
+            kr: 0.4375,
+            kb: -0.0,
+            luma_lift: 16.0,
+            chroma_cos: -16.0,
+            chroma_sin: -0.0,
+        };
+        assert_eq!(to_rgb(ends, [0.0, -0.0, 256.0]), 0);
+        for outside in [-f32::MIN_POSITIVE, 256.0_f32.next_up(), f32::NAN] {
+            assert_eq!(to_rgb(ends, [1.0, outside, 1.0]), 8);
+        }
+        for kr in [-f32::MIN_POSITIVE, 0.4375_f32.next_up(), f32::NAN] {
+            assert_eq!(to_rgb(Conversion { kr, ..ends }, [1.0; 3]), 8);
+        }
+        for luma_lift in [16.0_f32.next_up(), f32::NEG_INFINITY, f32::NAN] {
+            assert_eq!(to_rgb(Conversion { luma_lift, ..ends }, [1.0; 3]), 8);
+        }
     }
 
     #[test]

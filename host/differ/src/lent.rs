@@ -29,6 +29,15 @@ macro_rules! plain_integer {
 
 plain_integer!(u8 u16 u32 u64);
 
+impl Plain for i32 {
+    fn of_noise(bits: u64) -> Self {
+        bits as Self
+    }
+    fn bits(self) -> u64 {
+        (self as u32).into()
+    }
+}
+
 impl Plain for f32 {
     fn of_noise(bits: u64) -> Self {
         Self::from_bits(bits as u32)
@@ -37,6 +46,10 @@ impl Plain for f32 {
         self.to_bits().into()
     }
 }
+
+/// What lent places hold before a call: one pattern, then another that differs
+/// from it in every bit, so that a write shows in at least one of the two.
+pub const PATTERNS: [u64; 2] = [0x5555_5555_5555_5555, 0xAAAA_AAAA_AAAA_AAAA];
 
 /// Values on either side of the lent part.
 const GUARD: usize = 64;
@@ -58,6 +71,16 @@ impl<T: Plain> Guarded<T> {
         let all: Vec<T> = (0..count + 2 * GUARD)
             .map(|_| T::of_noise(random.next()))
             .collect();
+        Self {
+            was: all.clone(),
+            all,
+            lent: GUARD..GUARD + count,
+        }
+    }
+
+    /// Lends `count` values that all hold one of the [`PATTERNS`].
+    pub fn filled(pattern: u64, count: usize) -> Self {
+        let all = vec![T::of_noise(pattern); count + 2 * GUARD];
         Self {
             was: all.clone(),
             all,
@@ -112,36 +135,73 @@ impl<T: Plain> Guarded<T> {
 }
 
 /// Calls with one lent place for the answer, twice: the place and those beside
-/// it hold one pattern, then another that differs from it in every bit, so that
-/// a write shows in at least one of the two. `wanted` is the answer, or the
-/// number of the refusal, which leaves the place as it is.
+/// it hold one of the [`PATTERNS`], then the other. `wanted` is the answer, or
+/// the number of the refusal, which leaves the place as it is.
 pub fn one_place<T: Plain>(
     call: impl Fn(&mut T) -> u8,
     wanted: Result<T, u8>,
 ) -> Result<u8, Difference> {
+    places(
+        |places: &mut [T; 3]| call(&mut places[1]),
+        wanted.map(|answer| [answer]),
+    )
+}
+
+/// [`one_place`] for three answers, each in a place of its own.
+pub fn three_places<T: Plain>(
+    call: impl Fn(&mut T, &mut T, &mut T) -> u8,
+    wanted: Result<[T; 3], u8>,
+) -> Result<u8, Difference> {
+    places(
+        |[_, first, _, second, _, third, _]: &mut [T; 7]| call(first, second, third),
+        wanted,
+    )
+}
+
+/// The second place of `ALL` and every other one from there is lent.
+fn places<T: Plain, const ALL: usize, const LENT: usize>(
+    call: impl Fn(&mut [T; ALL]) -> u8,
+    wanted: Result<[T; LENT], u8>,
+) -> Result<u8, Difference> {
     let number = wanted.err().unwrap_or(0);
-    for pattern in [0x5555_5555_5555_5555, 0xAAAA_AAAA_AAAA_AAAA] {
+    for pattern in PATTERNS {
         let was = T::of_noise(pattern);
-        let mut places = [was; 3];
-        let given = call(&mut places[1]);
-        // The compiler must not suppose that the call kept to its own place.
+        let mut places = [was; ALL];
+        let given = call(&mut places);
+        // The compiler must not suppose that the call kept to its own places.
         let places = black_box(places);
         same("the number, which is document 01's", given, number)?;
-        let expected = [
-            ("the place before the answer", was),
-            match wanted {
-                Ok(answer) => ("the answer", answer),
-                Err(_) => ("the lent place, which was not to be written", was),
-            },
-            ("the place after the answer", was),
-        ];
-        for (now, (what, expected)) in places.into_iter().zip(expected) {
+        for (at, now) in places.into_iter().enumerate() {
+            let answer = if at % 2 == 1 {
+                wanted.ok().map(|wanted| wanted[at / 2])
+            } else {
+                None
+            };
+            let expected = answer.unwrap_or(was);
             if now.bits() != expected.bits() {
-                return Err(Difference::new(what, shown(now), shown(expected)));
+                return Err(Difference::new(
+                    name_of(at, LENT, answer.is_some()),
+                    shown(now),
+                    shown(expected),
+                ));
             }
         }
     }
     Ok(number)
+}
+
+/// What stands at a place among those lent and those between them.
+fn name_of(at: usize, lent: usize, written: bool) -> String {
+    let which = match (at / 2, lent) {
+        (_, 1) => String::new(),
+        (answer, _) => format!(" {answer}"),
+    };
+    match (at % 2, written) {
+        (1, true) => format!("the answer{which}"),
+        (1, false) => format!("the lent place{which}, which was not to be written"),
+        _ if at / 2 < lent => format!("the place before the answer{which}"),
+        _ => "the place after the answer".to_owned(),
+    }
 }
 
 /// Bytes that are lent for reading, with noise on either side: what is read

@@ -3,6 +3,8 @@
 //!     differ                  every run
 //!     differ first_field      this one
 //!     differ --list           their names
+//!     differ --whole quantise this one over its whole range; no part of the
+//!                             others, since it takes minutes
 //!
 //! Prints the seed, then a line for each run. Ends with 1 at the first
 //! difference, after the smallest input that shows it and both answers; with 2
@@ -12,17 +14,25 @@ use std::env;
 use std::process::ExitCode;
 
 use differ::random::{self, Random, SEED_VARIABLE};
-use differ::runs::{RUNS, Run};
+use differ::runs::{RUNS, Run, WHOLE};
 
 fn main() -> ExitCode {
-    let names: Vec<String> = env::args().skip(1).collect();
+    let mut names: Vec<String> = env::args().skip(1).collect();
     if names == ["--list"] {
         for run in RUNS {
             println!("{}: {}", run.name, run.about);
         }
+        for run in WHOLE {
+            println!("--whole {}: {}", run.name, run.about);
+        }
         return ExitCode::SUCCESS;
     }
-    let (seed, runs) = match random::seed().and_then(|seed| Ok((seed, chosen(&names)?))) {
+    let mut list = RUNS;
+    if names.first().is_some_and(|name| name == "--whole") {
+        names.remove(0);
+        list = WHOLE;
+    }
+    let (seed, runs) = match random::seed().and_then(|seed| Ok((seed, chosen(list, &names)?))) {
         Ok(chosen) => chosen,
         Err(complaint) => {
             eprintln!("differ: {complaint}");
@@ -43,16 +53,16 @@ fn main() -> ExitCode {
 }
 
 /// The runs of these names, in the order of the list; all of them for no name.
-fn chosen(names: &[String]) -> Result<Vec<&'static Run>, String> {
+fn chosen(list: &'static [Run], names: &[String]) -> Result<Vec<&'static Run>, String> {
     for name in names {
-        if RUNS.iter().all(|run| run.name != name) {
-            let known: Vec<_> = RUNS.iter().map(|run| run.name).collect();
+        if list.iter().all(|run| run.name != name) {
+            let known: Vec<_> = list.iter().map(|run| run.name).collect();
             return Err(format!(
-                "there is no run `{name}`; expected --list, or names of: {}",
+                "there is no run `{name}`; expected --list, --whole, or names of: {}",
                 known.join(", ")
             ));
         }
     }
     let wanted = |run: &&Run| names.is_empty() || names.iter().any(|name| name == run.name);
-    Ok(RUNS.iter().filter(wanted).collect())
+    Ok(list.iter().filter(wanted).collect())
 }

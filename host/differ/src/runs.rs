@@ -8,8 +8,15 @@ pub mod at;
 pub mod code;
 pub mod comb;
 pub mod comb_rgba;
+pub mod edge;
 pub mod first_field;
+pub mod luma;
+pub mod plane;
+pub mod quantise;
 mod read;
+pub mod sample;
+pub mod to_rgb;
+mod trio;
 
 pub struct Run {
     pub name: &'static str,
@@ -47,4 +54,46 @@ pub const RUNS: &[Run] = &[
                 sizes and lengths past their bounds",
         run: comb_rgba::run,
     },
+    Run {
+        name: edge::NAME,
+        about: "the tiny and the large planes of `at`; random planes up to 40 by 20 with pictures \
+                in which directions tie",
+        run: edge::run,
+    },
+    Run {
+        name: sample::NAME,
+        about: "three planes up to 40 by 20, each of any layout, with pictures at rest and moving, \
+                every quality, field and mate; large planes; codes, shapes and lengths past \
+                their bounds, planes that differ",
+        run: sample::run,
+    },
+    Run {
+        name: plane::NAME,
+        about: "three planes up to 64 by 32 as for `sample`, every value; some 8192 wide; more room \
+                than needed; codes, shapes, lengths and room past their bounds",
+        run: plane::run,
+    },
+    Run {
+        name: to_rgb::NAME,
+        about: "all twelve numbers at either end of their ranges; each just past its range; the \
+                Rust's own conversions; random numbers",
+        run: to_rgb::run,
+    },
+    Run {
+        name: quantise::NAME,
+        about: "every 1021st float by its bits, and all near a threshold",
+        run: quantise::run,
+    },
+    Run {
+        name: luma::NAME,
+        about: "every code",
+        run: luma::run,
+    },
 ];
+
+/// Runs over whole ranges: too long to be done each time.
+pub const WHOLE: &[Run] = &[Run {
+    name: quantise::NAME,
+    about: "every float",
+    run: quantise::every,
+}];

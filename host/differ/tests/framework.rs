@@ -4,8 +4,8 @@
 use std::hint::black_box;
 
 use differ::case::{Case, Difference, Failure, Least, Tally, same, smaller_numbers};
-use differ::given::{self, Contents, Given};
-use differ::lent::{Between, Guarded, one_place};
+use differ::given::{self, Contents, Given, Kind};
+use differ::lent::{Between, Guarded, one_place, three_places};
 use differ::plane::{Layout, cut, flipped, plane};
 use differ::random::{Random, read_seed};
 
@@ -237,6 +237,45 @@ fn one_lent_place_is_compared_with_those_beside_it() {
     }
 }
 
+/// Answers with `number` after it wrote each of the three, in the order of
+/// `places`.
+fn writing_three(number: u8, places: [usize; 3]) -> impl Fn(&mut i32, &mut i32, &mut i32) -> u8 {
+    move |first, second, third| {
+        let lent = [first, second, third];
+        for (at, place) in places.into_iter().enumerate() {
+            *lent[place] = at as i32 - 1;
+        }
+        number
+    }
+}
+
+#[test]
+fn three_lent_places_are_told_apart() {
+    let answers = Ok([-1, 0, 1]);
+    assert_eq!(three_places(writing_three(0, [0, 1, 2]), answers), Ok(0));
+    assert_eq!(three_places(|_, _, _: &mut i32| 8, Err(8)), Ok(8));
+    let trials = [
+        (writing_three(0, [1, 0, 2]), answers, "the answer 0"),
+        (writing_three(0, [0, 2, 1]), answers, "the answer 1"),
+        (writing_three(0, [0, 1, 1]), answers, "the answer 1"),
+        (writing_three(8, [0, 1, 2]), answers, "the number"),
+        (
+            writing_three(8, [0, 0, 0]),
+            Err(8),
+            "the lent place 0, which",
+        ),
+        (
+            writing_three(8, [2, 2, 2]),
+            Err(8),
+            "the lent place 2, which",
+        ),
+    ];
+    for (call, wanted, says) in trials {
+        let difference = three_places(call, wanted).expect_err(says);
+        assert!(difference.what.contains(says), "{difference:?}");
+    }
+}
+
 #[test]
 fn what_is_lent_for_reading_stands_between_noise() {
     for length in [0, 1, 15, 16, 1000] {
@@ -307,6 +346,68 @@ fn contents_have_the_length_asked_for() {
     let noise = Contents::Noise(1).bytes(50, 3, 16);
     assert_eq!(Contents::Within(1).bytes(50, 3, 16), noise);
     assert_eq!(Contents::Within(1).bytes(50, 3, 8), noise);
+}
+
+#[test]
+fn pictures_keep_to_their_depth_and_stand_where_they_are_read() {
+    let kinds = [Kind::Flat, Kind::Ramp, Kind::Slant, Kind::Few, Kind::Calm];
+    for kind in kinds {
+        let mut different = 0;
+        for seed in 0..20 {
+            let of = |up| Contents::Picture { kind, seed, up };
+            // Three samples of two bytes in each row, and one byte of padding.
+            let low = of(0).bytes(70, 7, 10);
+            let high = of(6).bytes(70, 7, 10);
+            let codes = |bytes: &[u8]| -> Vec<u16> {
+                let rows = bytes.chunks(7).map(|row| &row[..6]);
+                let samples = rows.flat_map(|row| row.chunks(2));
+                samples
+                    .map(|sample| u16::from_le_bytes([sample[0], sample[1]]))
+                    .collect()
+            };
+            let (low, high) = (codes(&low), codes(&high));
+            assert!(low.iter().all(|code| *code < 1024), "{kind:?} {seed}");
+            assert!(high.iter().zip(&low).all(|(high, low)| high >> 6 == *low));
+            different += u32::from(low.iter().any(|code| *code != low[0]));
+            assert_eq!(of(0).bytes(9, 4, 8).len(), 9);
+        }
+        assert_eq!(different > 10, kind != Kind::Flat, "{kind:?}: {different}");
+    }
+}
+
+/// A stretch of inputs counts as many, and a wrong one in it is found.
+#[derive(Debug, Clone)]
+struct Stretch(u64, u64);
+
+impl Case for Stretch {
+    fn compare(&self) -> Result<u8, Difference> {
+        same("whether 77 is in it", (self.0..self.1).contains(&77), false)?;
+        Ok(0)
+    }
+
+    fn smaller(&self) -> Vec<Self> {
+        let middle = (self.0 + self.1) / 2;
+        let halves = [Self(self.0, middle), Self(middle, self.1)];
+        let smaller = |half: &Self| half.inputs() < self.inputs();
+        halves.into_iter().filter(smaller).collect()
+    }
+
+    fn inputs(&self) -> u64 {
+        self.1 - self.0
+    }
+}
+
+#[test]
+fn a_stretch_counts_each_of_its_inputs() {
+    let least = Least {
+        accepted: 70,
+        refused: 0,
+    };
+    let cases = [Stretch(0, 40), Stretch(40, 70)];
+    let tally = Tally::of("stretch", least, cases).expect("no difference");
+    assert_eq!(tally.compared(), 70);
+    let failure = Tally::of("stretch", least, [Stretch(0, 200)]).expect_err("77");
+    assert!(failure.to_string().contains("Stretch(77, 78)"), "{failure}");
 }
 
 #[test]

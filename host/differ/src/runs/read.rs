@@ -1,4 +1,4 @@
-//! What the runs of `at` and `code` share: one plane, many coordinates.
+//! What the runs of `at`, `code` and `edge` share: one plane, many coordinates.
 
 use std::rc::Rc;
 
@@ -51,7 +51,7 @@ impl Asked {
 }
 
 /// A negative number also leads to its opposite, never the other way.
-fn nearer_to_nought(number: i32) -> Vec<i32> {
+pub fn nearer_to_nought(number: i32) -> Vec<i32> {
     let smaller = smaller_numbers(number.unsigned_abs().into()).into_iter();
     if number >= 0 {
         return smaller.map(|n| n as i32).collect();
@@ -77,7 +77,7 @@ const FAR: [i32; 6] = [-65_537, -65_536, 65_536, 65_537, i32::MIN, i32::MAX];
 /// a stride of a row or one byte more, and a length that is exact, one short
 /// or one long; every coordinate from two before to two after it, and the far
 /// ones.
-fn every_tiny_plane(mut random: Random) -> impl Iterator<Item = Asked> {
+pub fn every_tiny_plane(mut random: Random) -> impl Iterator<Item = Asked> {
     let mut planes = Vec::new();
     for width in 1..=3 {
         for height in 1..=3 {
@@ -129,7 +129,11 @@ fn random_planes(mut random: Random, planes: u64, outside_in: u64) -> impl Itera
 
 /// The largest planes of either kind, one with the largest stride, and two of
 /// usual sizes. Lent one after the other, as the largest has 35 million bytes.
-fn large_planes(mut random: Random, of_each: u64, outside_in: u64) -> impl Iterator<Item = Asked> {
+pub fn large_planes(
+    mut random: Random,
+    of_each: u64,
+    outside_in: u64,
+) -> impl Iterator<Item = Asked> {
     LARGE.iter().flat_map(move |&(shape, cut)| {
         let length = judge::needed(shape) as usize - cut;
         let contents = Contents::Noise(random.next());
@@ -150,7 +154,13 @@ const LARGE: [(PlaneNumbers, usize); 8] = [
     (numbers(720, 576, 8, 721, 0), 0),
 ];
 
-const fn numbers(width: u32, height: u32, depth: u32, stride: u32, layout: u32) -> PlaneNumbers {
+pub const fn numbers(
+    width: u32,
+    height: u32,
+    depth: u32,
+    stride: u32,
+    layout: u32,
+) -> PlaneNumbers {
     PlaneNumbers {
         width,
         height,
@@ -160,7 +170,7 @@ const fn numbers(width: u32, height: u32, depth: u32, stride: u32, layout: u32) 
     }
 }
 
-fn asked_of(
+pub fn asked_of(
     random: &mut Random,
     given: Rc<Given>,
     count: u64,
@@ -177,7 +187,7 @@ fn asked_of(
     asked.into_iter()
 }
 
-fn coordinate(random: &mut Random, size: u32, outside_in: u64) -> i32 {
+pub fn coordinate(random: &mut Random, size: u32, outside_in: u64) -> i32 {
     // Past the far ends of the type there is nothing to ask.
     let size = u64::from(size.min(i32::MAX as u32 - 2));
     if size > 0 && !random.one_in(outside_in) {

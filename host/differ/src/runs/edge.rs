@@ -1,0 +1,58 @@
+//! `desk_edge` against `filter::edge`.
+
+use std::rc::Rc;
+
+use oracle::video::filter;
+
+use super::read::{self, Asked};
+use crate::case::{Case, Difference, Failure, Least, Tally};
+use crate::given::{self, Contents};
+use crate::judge;
+use crate::lent::one_place;
+use crate::random::Random;
+
+pub const NAME: &str = "edge";
+
+#[derive(Debug, Clone)]
+struct Edge(Asked);
+
+impl Case for Edge {
+    fn compare(&self) -> Result<u8, Difference> {
+        let Asked { given, x, y } = &self.0;
+        let (x, y) = (*x, *y);
+        let wanted = match judge::edge(given.shape, given.length, x, y) {
+            0 => Ok(filter::edge(&read::samples(given), x, y)),
+            number => Err(number),
+        };
+        one_place(
+            |slant| desk::edge(given.lent(), given.shape, x, y, slant),
+            wanted,
+        )
+    }
+
+    fn smaller(&self) -> Vec<Self> {
+        self.0.smaller().into_iter().map(Self).collect()
+    }
+}
+
+/// Planes of the random part, and coordinates asked of each.
+const PLANES: u64 = 7_000;
+const OF_EACH: u64 = 48;
+
+/// Of the random coordinates, one in so many is picked outside or at an edge.
+const OUTSIDE_IN: u64 = 4;
+
+pub fn run(random: &mut Random) -> Result<Tally, Failure> {
+    let tiny = read::every_tiny_plane(Random::new(random.next()));
+    let large = read::large_planes(Random::new(random.next()), 500, OUTSIDE_IN);
+    let others = (0..PLANES).flat_map(|_| {
+        let mut given = given::random(random, 40, 20, 4);
+        given.contents = Contents::picture(random, given.shape);
+        read::asked_of(random, Rc::new(given), OF_EACH, OUTSIDE_IN)
+    });
+    let least = Least {
+        accepted: 230_000,
+        refused: 150_000,
+    };
+    Tally::of(NAME, least, tiny.chain(large).chain(others).map(Edge))
+}

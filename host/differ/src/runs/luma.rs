@@ -1,0 +1,42 @@
+//! `desk_luma` against `Primaries::luma`, on every code.
+
+use oracle::video::colour::Primaries;
+
+use crate::case::{Case, Difference, Failure, Least, Tally, smaller_numbers};
+use crate::lent::three_places;
+use crate::random::Random;
+
+pub const NAME: &str = "luma";
+
+#[derive(Debug, Clone)]
+struct Code(u8);
+
+impl Case for Code {
+    fn compare(&self) -> Result<u8, Difference> {
+        let wanted = match self.0 {
+            0 => Ok(Primaries::Bt709.luma()),
+            1 => Ok(Primaries::Bt2020.luma()),
+            // Document 01's table: "a code names nothing".
+            _ => Err(3),
+        };
+        three_places(
+            |red, green, blue| desk::luma(self.0, red, green, blue),
+            wanted,
+        )
+    }
+
+    fn smaller(&self) -> Vec<Self> {
+        smaller_numbers(self.0.into())
+            .into_iter()
+            .map(|code| Self(code as u8))
+            .collect()
+    }
+}
+
+pub fn run(_: &mut Random) -> Result<Tally, Failure> {
+    let least = Least {
+        accepted: 2,
+        refused: 254,
+    };
+    Tally::of(NAME, least, (0..=u8::MAX).map(Code))
+}
