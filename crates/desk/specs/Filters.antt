@@ -6,8 +6,7 @@ use lib.Dec.{leb, eqb}
 use lib.IntN.{ℤ}
 use Rattle.laws.specs.Refusal.{lowest}
 use lib.Ieee.{Float}
-use Rattle.field.specs.declared.Parity.{Parity}
-use Rattle.field.specs.declared.Parity.the-variants.{Top, Bottom}
+use Rattle.field.specs.Field.{parityNamed}
 use Rattle.plane.specs.Plane.{valueOf}
 use Rattle.filter.specs.declared.Quality.{Quality}
 use Rattle.filter.specs.declared.Quality.the-variants.{Weave, Bob, Yadif, Bwdif}
@@ -36,10 +35,6 @@ sampleNo quality rows before before-bytes cur cur-bytes after after-bytes x y =
     lowest
     ((3, allNamed quality before cur after)
     ∷ sampleTests rows (shapeNamed before) before-bytes (shapeNamed cur) cur-bytes (shapeNamed after) after-bytes x y)
-
--- 0 top, 1 bottom: a field by its first row
-abbrev pub parityNamed : ℕ → Parity
-parityNamed first = cond (eqb first 0) Top Bottom
 
 -- 3 also where a code names nothing, or `first` is neither 0 nor 1
 abbrev pub planeNo : ℕ → ℕ → PlaneNumbers → ℕ → PlaneNumbers → ℕ → PlaneNumbers → ℕ → ℕ → ℕ

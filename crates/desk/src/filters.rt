@@ -9,7 +9,7 @@ ghost use Rattle.laws.specs.Rows.{over};
 ghost use Rattle.plane.specs.Plane.{valueOf};
 ghost use Rattle.filter.specs.Filter.{edgeOf, sampleOf};
 ghost use Rattle.desk.specs.Planes.{shapeNamed};
-ghost use Rattle.desk.specs.Filters.{qualityNamed, rowsNamed, edgeNo, sampleNo, parityNamed, planeNo, linesNamed};
+ghost use Rattle.desk.specs.Filters.{qualityNamed, rowsNamed, edgeNo, sampleNo, planeNo, linesNamed};
 
 // 0 Weave, 1 Bob, 2 Yadif, 3 Bwdif.
 pub fn quality_named(code: u8) -> filter::Quality
@@ -97,17 +97,6 @@ pub extern "C" fn desk_sample(
     }
 }
 
-// The field by its first row.
-fn parity_named(first: u8) -> field::Parity
-    ensures { λ r. ⌜ r ≡ parityNamed first ⌝ }
-{
-    if first == 0 {
-        field::Parity::Top
-    } else {
-        field::Parity::Bottom
-    }
-}
-
 // The samples of a whole plane, row by row, of which the rows `first`, 0 or 1, are shown. Numbers 3 to 7.
 #[no_mangle]
 pub extern "C" fn desk_plane(
@@ -135,7 +124,7 @@ pub extern "C" fn desk_plane(
     fill::plane(
         out,
         quality_named(quality),
-        parity_named(first),
+        field::Parity::named(first as u32),
         before,
         planes::shape_named(before_shape),
         cur,

@@ -1,8 +1,11 @@
--- Fields of a frame (document 01, "Port order", 1: `Parity`, `first_field`; the source is field.rs). Assumes nothing.
+-- Fields of a frame (document 01, "Port order", 1: `Parity`, `first_field`; the source is field.rs), and the numbers that stand for fields and cadences. Assumes nothing.
 use Prim.Native.Nat.{ℕ}
-use mathlib.Core.Bool.{Bool, true, false}
+use mathlib.Core.Bool.{Bool, true, false, cond}
+use lib.Dec.{eqb}
 use Rattle.field.specs.declared.Parity.{Parity}
 use Rattle.field.specs.declared.Parity.the-variants as parity
+use Rattle.field.specs.declared.Cadence.{Cadence}
+use Rattle.field.specs.declared.Cadence.the-variants as cadence
 use Rattle.field.specs.declared.Structure.{Structure}
 use Rattle.field.specs.declared.Structure.the-variants as structure
 
@@ -14,6 +17,17 @@ firstRowOf parity.Bottom = 1
 abbrev pub otherOf : Parity → Parity
 otherOf parity.Top = parity.Bottom
 otherOf parity.Bottom = parity.Top
+
+-- the field that a number names: 0 top, 1 bottom
+abbrev pub parityNamed : ℕ → Parity
+parityNamed number = cond (eqb number 0) parity.Top parity.Bottom
+
+-- the byte that stands for a cadence (document 01, "Fields and readback")
+abbrev pub cadenceNumber : Cadence → ℕ
+cadenceNumber cadence.None = 0
+cadenceNumber cadence.Whole = 1
+cadenceNumber cadence.Drop = 2
+cadenceNumber cadence.Spanning = 3
 
 -- the field that comes first in time: of a whole frame as its flag says, of a single field that field
 abbrev pub firstFieldOf : Structure → Bool → Parity

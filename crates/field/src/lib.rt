@@ -6,7 +6,7 @@
 //
 // Which field of a frame is which, and the words for what is shown of a frame. Assumes nothing.
 ghost use mathlib.Core.Path.{_≡_};
-ghost use Rattle.field.specs.Field.{firstRowOf, otherOf, firstFieldOf};
+ghost use Rattle.field.specs.Field.{firstRowOf, otherOf, parityNamed, cadenceNumber, firstFieldOf};
 
 // The two fields of a frame. The top one has the even rows, the bottom one the odd.
 pub enum Parity {
@@ -33,6 +33,17 @@ impl Parity {
             Parity::Bottom => Parity::Top,
         }
     }
+
+    // The field that a number names. Callers refuse a number above 1.
+    pub fn named(first_row: u32) -> Parity
+        ensures { λ r. ⌜ r ≡ parityNamed «first_row» ⌝ }
+    {
+        if first_row == 0 {
+            Parity::Top
+        } else {
+            Parity::Bottom
+        }
+    }
 }
 
 // Which of the three frames at hand a field is taken from.
@@ -51,6 +62,20 @@ pub enum Cadence {
     Spanning,
     // The frame has no film picture of its own.
     Drop,
+}
+
+impl Cadence {
+    // The number by which the desk gets it.
+    pub fn number(self) -> u8
+        ensures { λ r. ⌜ r ≡ cadenceNumber self ⌝ }
+    {
+        match self {
+            Cadence::None => 0,
+            Cadence::Whole => 1,
+            Cadence::Spanning => 3,
+            Cadence::Drop => 2,
+        }
+    }
 }
 
 // One of the two fields, or neither: `Option<Parity>` of the original.

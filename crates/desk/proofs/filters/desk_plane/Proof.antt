@@ -24,8 +24,8 @@ returns c =
 quality-named-requires : tie.Need-quality-named-requires
 quality-named-requires c κs = search needs
 
-parity-named-requires : tie.Need-parity-named-requires
-parity-named-requires c κs = search needs
+named-requires : tie.Need-named-requires
+named-requires c κs = search needs
 
 shape-named-requires : tie.Need-shape-named-requires
 shape-named-requires c κs = search needs
@@ -50,7 +50,7 @@ returns-2 c =
     let m = k .before .before .shape-named2 .ensures in
     let e = k .before .shape-named3 .ensures in
     let quality = k .before .before .before .before .before .quality-named .ensures in
-    let first = k .before .before .before .before .parity-named .ensures in
+    let first = k .before .before .before .before .named .ensures in
     let named =
     not-false (allNamed (a .quality) (a .before-shape) (a .cur-shape) (a .after-shape) && leb (a .first) 1)
     (k .before .before .before .before .before .before .before .if1 .left)
@@ -70,7 +70,7 @@ desk-plane-spec =
     (tie.spec
     returns
     quality-named-requires
-    parity-named-requires
+    named-requires
     shape-named-requires
     shape-named-requires-2
     shape-named-requires-3
