@@ -177,24 +177,25 @@ fn distance(a: u8, b: u8) -> u8
 }
 
 // 1 where two samples differ, else 0.
-fn differ(a: u8, b: u8) -> u32
+fn differ(a: u8, b: u8) -> u8
     ensures { λ r. ⌜ (r ≡ oneIf (differs a b)) × (r ≤ 1) ⌝ }
 {
     if 8 < distance(a, b) { 1 } else { 0 }
 }
 
-// How many samples of two parts of a row differ.
+// How many samples of two parts of a row differ. Sixteen at most, so a byte holds the sum, and the loop
+// is vectorised by bytes.
 fn differ_in(a: &[u8], b: &[u8]) -> u32
     requires { ⌜ (length (now a) ≡ length (now b)) × (length (now a) ≤ 16) ⌝ }
     ensures { λ r. ⌜ (r ≡ sumOver (length (now (a .entry))) (λ x. oneIf (differs (getD (now (a .entry)) x 0) (getD (now (b .entry)) x 0)))) × (r ≤ 16) ⌝ }
 {
-    let mut n: u32 = 0;
+    let mut n: u8 = 0;
     let mut x = 0;
     while x < a.len() {
         n += differ(a[x], b[x]);
         x += 1;
     }
-    n
+    n as u32
 }
 
 // A block's side, or what is left at the edge.

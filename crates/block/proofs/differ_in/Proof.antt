@@ -40,6 +40,9 @@ loop-again c =
     let turn = c .before .before .before in
     adds (turn .before .loop .inv) (turn .loop-test .taken) (c .differ .ensures .1) (c .differ .ensures .0)
 
+cast-result : tie.Need-cast-result Inv-loop μ-loop
+cast-result c = omega arith
+
 returns : tie.Need-returns Inv-loop μ-loop
 returns c = (ends (c .before .loop .inv) (c .loop-test .left), omega arith)
 
@@ -57,4 +60,5 @@ differ-in-spec =
     add-x
     loop-less
     loop-again
+    cast-result
     returns)
