@@ -1,0 +1,7 @@
+-- The laws that the proofs of the functions cite, and the claims. Assumes nothing.
+pub mod General
+pub mod Quotients
+pub mod Judged
+pub mod Painted
+pub mod Values
+pub mod Claims

@@ -1,0 +1,210 @@
+-- `picture::paint_groups` meets its contract. Assumes nothing.
+use mathlib.Core.Path.{_≡_, sym, _∙_}
+use mathlib.Core.List.{List}
+use Prim.Native.Nat.{ℕ, _+_, _-_, _*_, _%_, _≤_, _<_}
+use native.Mathlib.Nat.{add-mul, mul-le-mul, mul-le-mul-right}
+use native.Mathlib.Omega.{arith}
+use borrow.Author.Needs.{needs}
+use lib.ListN.{length}
+use denote.Ref.{now}
+use Rattle.laws.proofs.Lists.{Stacked, stack-starts, stack-ends}
+use Rattle.laws.proofs.Rows.{length-part}
+use Rattle.picture.specs.Picture.{Frame, frameOf, served, pixelRow, pixelRows}
+use Rattle.picture.specs.Inner.{Rooms}
+use Rattle.picture.proofs.General.{stacks-rows}
+use Rattle.picture.proofs.Painted.{length-row}
+use Rattle.picture.proofs.paint_groups.Statement.{statement}
+use Rattle.picture.proofs.paint_groups.Tie as tie
+
+-- the rows so far stand in the output, and the next group starts at an even row
+abbrev Inv-loop : tie.InvT-loop
+Inv-loop out₀ quality rows conversion before after previous previous-luma previous-cb previous-cr current current-luma current-cb current-cr following following-luma following-cb following-cr luma₀ cb₀ cr₀ shape from₀ out luma cb cr from =
+    Stacked
+    (pixelRow conversion quality rows (served before (frameOf previous previous-luma previous-cb previous-cr) (frameOf current current-luma current-cb current-cr) (frameOf following following-luma following-cb following-cr)) (frameOf current current-luma current-cb current-cr)
+    (served after (frameOf previous previous-luma previous-cb previous-cr) (frameOf current current-luma current-cb current-cr) (frameOf following following-luma following-cb following-cr)) (current .luma .width))
+    (current .luma .width * 4) (current .luma .height) out₀ out from
+    × (from < current .luma .height → from % 2 ≡ 0) × Rooms luma cb cr
+
+abbrev μ-loop : tie.MeasureT-loop
+μ-loop out₀ quality rows conversion before after previous previous-luma previous-cb previous-cr current current-luma current-cb current-cr following following-luma following-cb following-cr luma₀ cb₀ cr₀ shape from₀ out luma cb cr from =
+    current .luma .height - from
+
+-- the call's own values, its frames and its rows
+abbrev entry : tie.At-loop Inv-loop μ-loop → tie.Start Inv-loop μ-loop
+entry l = l .before .before .before .before .before .before .before .before .before .before .before .before .before .before .before
+
+abbrev previous-of : tie.Start Inv-loop μ-loop → Frame
+previous-of z = let a = z .args in frameOf (a .previous) (now (a .previous-luma)) (now (a .previous-cb)) (now (a .previous-cr))
+
+abbrev current-of : tie.Start Inv-loop μ-loop → Frame
+current-of z = let a = z .args in frameOf (a .current) (now (a .current-luma)) (now (a .current-cb)) (now (a .current-cr))
+
+abbrev following-of : tie.Start Inv-loop μ-loop → Frame
+following-of z = let a = z .args in frameOf (a .following) (now (a .following-luma)) (now (a .following-cb)) (now (a .following-cr))
+
+abbrev before-of : tie.Start Inv-loop μ-loop → Frame
+before-of z = served (z .args .before) (previous-of z) (current-of z) (following-of z)
+
+abbrev after-of : tie.Start Inv-loop μ-loop → Frame
+after-of z = served (z .args .after) (previous-of z) (current-of z) (following-of z)
+
+abbrev row-of : tie.At-loop Inv-loop μ-loop → ℕ → List ℕ
+row-of l =
+    let a = entry l .args in
+    pixelRow (a .conversion) (a .quality) (a .rows) (before-of (entry l)) (current-of (entry l)) (after-of (entry l))
+    (a .current .luma .width)
+
+row-long : (l : tie.At-loop Inv-loop μ-loop) (y : ℕ) → length (row-of l y) ≡ entry l .args .current .luma .width * 4
+row-long l y =
+    let a = entry l .args in
+    length-row (a .conversion) (a .quality) (a .rows) (before-of (entry l)) (current-of (entry l)) (after-of (entry l))
+    (a .current .luma .width) y
+
+-- a group: its rows, and where its bytes stand
+record Turn (from count height width out : ℕ) : Type 0 where
+  few : count ≤ 8
+  some : 1 ≤ count
+  inside : from + count ≤ height
+  height-high : height ≤ 4352
+  even : from % 2 ≡ 0
+  stays-even : from + count < height → (from + count) % 2 ≡ 0
+  start-high : from * (width * 4) ≤ 4352 * 32768
+  span-high : count * (width * 4) ≤ 8 * 32768
+  ends : from * (width * 4) + count * (width * 4) ≤ out
+
+turns :
+    (from count height width out : ℕ) → from < height → height ≤ 4352 → width ≤ 8192 → from % 2 ≡ 0 → height * (width * 4) ≤ out →
+    (count ≤ 8) × (count ≤ height - from) × (1 ≤ height - from → 1 ≤ count) × (count < height - from → count ≡ 8) → Turn from count height width out
+turns from count height width out below high wide even room g =
+    let inside : from + count ≤ height = omega (arith, g .1) in
+    let from-high : from ≤ 4352 = omega arith in
+    let wide-row : width * 4 ≤ 32768 = omega arith in
+    let rows : (from + count) * (width * 4) ≤ height * (width * 4) = mul-le-mul-right {m = from + count} {n = height} (width * 4) inside in
+    record {
+      few = g .0;
+      some = g .2 (omega arith);
+      inside = inside;
+      height-high = high;
+      even = even;
+      stays-even = λ l. stays l (g .3 (omega arith));
+      start-high = mul-le-mul from-high wide-row;
+      span-high = mul-le-mul (g .0) wide-row;
+      ends = omega (arith, rows, room, add-mul from count (width * 4));
+    }
+  where
+    stays : from + count < height → count ≡ 8 → (from + count) % 2 ≡ 0
+    stays l e = omega arith
+
+turn :
+    (c : tie.After-group Inv-loop μ-loop) →
+    let l = c .before .before .before .before in
+    let a = entry l .args in
+    Turn (l .loop .from) (c .group .result) (a .current .luma .height) (a .current .luma .width) (length (l .loop .out))
+turn c =
+    let l = c .before .before .before .before in
+    let z = entry l in
+    let a = z .args in
+    let below = c .before .before .if1 .taken in
+    turns (l .loop .from) (c .group .result) (a .current .luma .height) (a .current .luma .width) (length (l .loop .out)) below (z .pre .0 .height-high) (z .pre .0 .width-high)
+    (l .loop .inv .1 below) (omega (arith, z .pre .1 .0, l .loop .inv .0 .long)) (c .group .ensures)
+
+loop-holds : tie.Need-loop-holds Inv-loop μ-loop
+loop-holds c = (stack-starts (λ y. length-row _ _ _ _ _ _ _ y), λ l. omega arith, c .before .before .before .before .before .before .before .before .before .before .before .before .before .before .pre .1 .1)
+
+sub-group : tie.Need-sub-group Inv-loop μ-loop
+sub-group c = omega (arith, c .before .if1 .taken)
+
+group-requires : tie.Need-group-requires Inv-loop μ-loop
+group-requires c κs = search needs
+
+bytes-of-requires : tie.Need-bytes-of-requires Inv-loop μ-loop
+bytes-of-requires c κs = search needs
+
+bytes-of-requires-2 : tie.Need-bytes-of-requires-2 Inv-loop μ-loop
+bytes-of-requires-2 c κs = search needs
+
+add-to : tie.Need-add-to Inv-loop μ-loop
+add-to c = omega (arith, turn (c .before .before), c .before .bytes-of .ensures, c .bytes-of2 .ensures)
+
+sub-paint-group : tie.Need-sub-paint-group Inv-loop μ-loop
+sub-paint-group c = omega (arith, turn (c .before .before), c .before .bytes-of .ensures, c .bytes-of2 .ensures)
+
+part-paint-group-start : tie.Need-part-paint-group-start Inv-loop μ-loop
+part-paint-group-start c = omega (arith, turn (c .before .before), c .before .bytes-of .ensures, c .bytes-of2 .ensures)
+
+part-paint-group-end : tie.Need-part-paint-group-end Inv-loop μ-loop
+part-paint-group-end c = omega (arith, turn (c .before .before), c .before .bytes-of .ensures, c .bytes-of2 .ensures)
+
+paint-group-requires : tie.Need-paint-group-requires Inv-loop μ-loop
+paint-group-requires c κs =
+    let placed = c .before .before .before .before in
+    let l = placed .before .before .before .before .before .before in
+    let t = turn (placed .before .before) in
+    let start = placed .before .bytes-of .ensures in
+    let span = placed .bytes-of2 .ensures in
+    let part = length-part (placed .before .bytes-of .result) (placed .bytes-of2 .result) (l .loop .out) (omega (arith, t .ends, start, span)) ∙ span in
+    (entry l .pre .0, ((t .even, t .inside, t .few, part), l .loop .inv .2))
+
+add-from : tie.Need-add-from Inv-loop μ-loop
+add-from c = omega (arith, turn (c .before .before .before .before .before .before .before .before .before .before .before .before .before .before .before))
+
+loop-less : tie.Need-loop-less Inv-loop μ-loop
+loop-less c = omega (arith, turn (c .before .before .before .before .before .before .before .before .before .before .before .before .before .before .before))
+
+loop-again : tie.Need-loop-again Inv-loop μ-loop
+loop-again c =
+    let placed = c .before .before .before .before .before .before .before .before .before .before .before .before .before in
+    let l = placed .before .before .before .before .before .before in
+    let z = entry l in
+    let t = turn (placed .before .before) in
+    let rooms = l .loop .inv .2 in (
+      stacks-rows (row-of l) (z .args .current .luma .width * 4) (row-long l) (placed .before .before .group .result) (l .loop .inv .0) (t .inside) (z .pre .1 .0)
+          (placed .before .bytes-of .ensures) (placed .bytes-of2 .ensures) (c .before .before .before .before .before .before .before .before .paint-group .ensures),
+      t .stays-even,
+      record {
+        luma-room = c .before .before .before .before .before .luma .given ∙ rooms .luma-room;
+        cb-room = c .before .before .before .cb .given ∙ rooms .cb-room;
+        cr-room = c .before .cr .given ∙ rooms .cr-room;
+      },
+    )
+
+same-length : tie.Need-same-length Inv-loop μ-loop
+same-length c = c .before .before .loop .inv .0 .long
+
+same-length-2 : tie.Need-same-length-2 Inv-loop μ-loop
+same-length-2 c = c .before .before .loop .inv .2 .luma-room ∙ sym (entry (c .before .before) .pre .1 .1 .luma-room)
+
+same-length-3 : tie.Need-same-length-3 Inv-loop μ-loop
+same-length-3 c = c .before .before .loop .inv .2 .cb-room ∙ sym (entry (c .before .before) .pre .1 .1 .cb-room)
+
+same-length-4 : tie.Need-same-length-4 Inv-loop μ-loop
+same-length-4 c = c .before .before .loop .inv .2 .cr-room ∙ sym (entry (c .before .before) .pre .1 .1 .cr-room)
+
+returns : tie.Need-returns Inv-loop μ-loop
+unfolding pixelRows
+returns c = let l = c .before .before in stack-ends (row-long l) (l .loop .inv .0) (omega (arith, c .if1 .left))
+
+pub paint-groups-spec : {M : Type 1} → statement M
+paint-groups-spec =
+    tie.close
+    (tie.spec
+    Inv-loop
+    μ-loop
+    loop-holds
+    sub-group
+    group-requires
+    bytes-of-requires
+    bytes-of-requires-2
+    add-to
+    sub-paint-group
+    part-paint-group-start
+    part-paint-group-end
+    paint-group-requires
+    add-from
+    loop-less
+    loop-again
+    same-length
+    same-length-2
+    same-length-3
+    same-length-4
+    returns)

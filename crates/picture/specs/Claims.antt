@@ -1,0 +1,45 @@
+-- What the contract of `picture_of` comes to. proofs/Claims.antt proves each claim under its name in small letters. Assumes nothing.
+use Prim.Native.Nat.{ℕ, _*_, _+_, _<_}
+use mathlib.Core.Path.{_≡_}
+use lib.ListN.{length, getD}
+use Rattle.laws.specs.Refusal.{Says}
+use Rattle.field.specs.declared.Output.{Output}
+use Rattle.plane.specs.Claims.{AllBytes}
+use Rattle.filter.specs.declared.Quality.{Quality}
+use Rattle.colour.specs.declared.Conversion.{Conversion}
+use Rattle.colour.specs.Claims.{InUnit}
+use Rattle.filter.specs.Rows.{rowsOf}
+use Rattle.picture.specs.Picture.{Frame, pictureTests, pictureNo, pictureOf, qualityFor, served, colourAt}
+
+-- 0 exactly when no number of the table applies, and otherwise the lowest that does
+abbrev pub PictureSays : Type 0
+PictureSays = (conversion : Conversion) (previous current following : Frame) (room : ℕ) → Says (pictureTests conversion previous current following room)
+
+-- A picture has four bytes for each pixel.
+abbrev pub PictureSize : Type 0
+PictureSize =
+    (quality : Quality) (output : Output) (conversion : Conversion) (previous current following : Frame)
+    → length (pictureOf quality output conversion previous current following) ≡ current .shapes .luma .height * (current .shapes .luma .width * 4)
+
+-- Alpha is 255 everywhere.
+abbrev pub Opaque : Type 0
+Opaque =
+    (quality : Quality) (output : Output) (conversion : Conversion) (previous current following : Frame) (x y : ℕ)
+    → x < current .shapes .luma .width → y < current .shapes .luma .height
+    → getD (pictureOf quality output conversion previous current following) (y * (current .shapes .luma .width * 4) + (x * 4 + 3)) 0 ≡ 255
+
+-- what is lent of a frame is bytes
+pub record Bytes (f : Frame) : Type 0 where
+  pub luma : AllBytes (f .luma)
+  pub cb : AllBytes (f .cb)
+  pub cr : AllBytes (f .cr)
+
+-- No pixel of a picture that is not refused comes from a NaN or from a value outside 0..1.
+abbrev pub PixelsInUnit : Type 0
+PixelsInUnit =
+    (quality : Quality) (output : Output) (conversion : Conversion) (previous current following : Frame) (room x y : ℕ)
+    → Bytes previous → Bytes current → Bytes following
+    → pictureNo conversion previous current following room ≡ 0
+    → InUnit
+    (colourAt conversion (qualityFor (output .field) quality) (rowsOf output) (served (output .before) previous current following) current
+    (served (output .after) previous current following) x y)
