@@ -1,0 +1,138 @@
+-- What a call that gets 0 has shown, of each plane that it weaves, and how a call ends. Assumes nothing.
+use Prim.Native.Nat.{ℕ, _*_, _≤_, _<_}
+use mathlib.Core.Path.{_≡_, sym, ap, _∙_}
+use mathlib.Core.Bool.{Bool, true, _&&_}
+use mathlib.Core.List.{List}
+use lib.Dec.{eqb, lit<}
+use lib.ListN.{length}
+use borrow.Author.Tests.{leb-true, ltb-true, eqb-true, eq-eqb}
+use Rattle.laws.proofs.Refusal.{first-passes, rest-passes}
+use Rattle.plane.specs.declared.Shape.{Shape}
+use Rattle.plane.specs.Plane.{agree, half, chromaAgrees}
+use Rattle.plane.proofs.Coordinates.{both-inside}
+use Rattle.weave.specs.declared.Lines.{Lines}
+use Rattle.weave.specs.Weave.{Given, shapeOf, goodLines, goodField, chromaFits, whole, roomFor, wovenBytes, weaveNo, lineNo}
+use Rattle.weave.specs.Claims.{Matched}
+use Rattle.weave.proofs.Fields.{Alike, alike-in}
+
+-- each of three tests that hold together
+pub each-of-three : (a b c : Bool) → (a && b && c) ≡ true → (a ≡ true) × (b ≡ true) × (c ≡ true)
+each-of-three a b c h =
+    let last = both-inside (a && b) c h in
+    let first = both-inside a b (last .0) in
+    (first .0, first .1, last .1)
+
+-- ---- chroma planes agree where their luma planes do
+
+alike-back : (a b : Shape) → Alike a b → agree a b ≡ true
+alike-back a b h =
+    rw (eq-eqb (a .width) (b .width) (h .widths), eq-eqb (a .height) (b .height) (h .heights), eq-eqb (a .depth) (b .depth) (h .depths))
+
+pub record Half (luma chroma : Shape) : Type 0 where
+  pub across : chroma .width ≡ half (luma .width)
+  pub down : chroma .height ≡ half (luma .height)
+  pub deep : chroma .depth ≡ luma .depth
+
+pub half-of : (luma chroma : Shape) → chromaAgrees luma chroma ≡ true → Half luma chroma
+half-of luma chroma h =
+    let t =
+    each-of-three (eqb (chroma .width) (half (luma .width))) (eqb (chroma .height) (half (luma .height))) (eqb (chroma .depth) (luma .depth)) h in
+    record {
+      across = eqb-true (chroma .width) (half (luma .width)) (t .0);
+      down = eqb-true (chroma .height) (half (luma .height)) (t .1);
+      deep = eqb-true (chroma .depth) (luma .depth) (t .2);
+    }
+
+chroma-alike :
+    (luma chroma luma′ chroma′ : Shape) →
+    agree luma luma′ ≡ true → chromaAgrees luma chroma ≡ true → chromaAgrees luma′ chroma′ ≡ true → agree chroma chroma′ ≡ true
+chroma-alike luma chroma luma′ chroma′ same one other =
+    let l = alike-in luma luma′ same in
+    let a = half-of luma chroma one in
+    let b = half-of luma′ chroma′ other in
+    alike-back chroma chroma′
+    record {
+      widths = a .across ∙ ap half (l .widths) ∙ sym (b .across);
+      heights = a .down ∙ ap half (l .heights) ∙ sym (b .down);
+      depths = a .deep ∙ l .depths ∙ sym (b .deep);
+    }
+
+-- ---- the three planes of a call of `weave`
+
+-- a plane that can be woven into the room it has
+abbrev pub Ready : List ℕ → Lines → List ℕ → Lines → ℕ → Type 0
+Ready top t bottom b room = Matched top t bottom b × (wovenBytes t ≤ room)
+
+module _ (top bottom : Given) (luma-room cb-room cr-room : ℕ) (done : weaveNo top bottom luma-room cb-room cr-room ≡ 0) where
+  pub judged :
+      Ready (top .luma) (top .shape .luma) (bottom .luma) (bottom .shape .luma) luma-room
+      × Ready (top .cb) (top .shape .cb) (bottom .cb) (bottom .shape .cb) cb-room
+      × Ready (top .cr) (top .shape .cr) (bottom .cr) (bottom .shape .cr) cr-room
+  judged =
+      let t = top .shape in
+      let b = bottom .shape in
+      let past-shapes = rest-passes 4 _ _ (lit< tt) done in
+      let past-sizes = rest-passes 5 _ _ (lit< tt) past-shapes in
+      let past-bytes = rest-passes 6 _ _ (lit< tt) past-sizes in
+      let shapes = both-inside (goodField t) (goodField b) (first-passes 4 _ _ (lit< tt) done) in
+      let good = each-of-three (goodLines (t .luma)) (goodLines (t .cb)) (goodLines (t .cr)) (shapes .0) in
+      let good′ = each-of-three (goodLines (b .luma)) (goodLines (b .cb)) (goodLines (b .cr)) (shapes .1) in
+      let sizes = each-of-three (agree (shapeOf (t .luma)) (shapeOf (b .luma))) (chromaFits t) (chromaFits b) (first-passes 5 _ _ (lit< tt) past-shapes) in
+      let fits = both-inside (chromaAgrees (shapeOf (t .luma)) (shapeOf (t .cb))) (chromaAgrees (shapeOf (t .luma)) (shapeOf (t .cr))) (sizes .1) in
+      let fits′ = both-inside (chromaAgrees (shapeOf (b .luma)) (shapeOf (b .cb))) (chromaAgrees (shapeOf (b .luma)) (shapeOf (b .cr))) (sizes .2) in
+      let wholes = both-inside (whole top) (whole bottom) (first-passes 6 _ _ (lit< tt) past-sizes) in
+      let long = each-of-three _ _ _ (wholes .0) in
+      let long′ = each-of-three _ _ _ (wholes .1) in
+      let rooms = each-of-three _ _ _ (first-passes 7 (roomFor t luma-room cb-room cr-room) _ (lit< tt) past-bytes) in (
+        (
+          record {
+            top-good = good .0;
+            bottom-good = good′ .0;
+            alike = sizes .0;
+            top-whole = leb-true _ _ (long .0);
+            bottom-whole = leb-true _ _ (long′ .0);
+          },
+          leb-true _ _ (rooms .0),
+        ),
+        (
+          record {
+            top-good = good .1;
+            bottom-good = good′ .1;
+            alike = chroma-alike (shapeOf (t .luma)) (shapeOf (t .cb)) (shapeOf (b .luma)) (shapeOf (b .cb)) (sizes .0) (fits .0) (fits′ .0);
+            top-whole = leb-true _ _ (long .1);
+            bottom-whole = leb-true _ _ (long′ .1);
+          },
+          leb-true _ _ (rooms .1),
+        ),
+        (
+          record {
+            top-good = good .2;
+            bottom-good = good′ .2;
+            alike = chroma-alike (shapeOf (t .luma)) (shapeOf (t .cr)) (shapeOf (b .luma)) (shapeOf (b .cr)) (sizes .0) (fits .1) (fits′ .1);
+            top-whole = leb-true _ _ (long .2);
+            bottom-whole = leb-true _ _ (long′ .2);
+          },
+          leb-true _ _ (rooms .2),
+        ),
+      )
+
+-- ---- a single line
+
+pub line-judged :
+    (top : List ℕ) (t : Lines) (bottom : List ℕ) (b : Lines) (y : ℕ) →
+    lineNo t (length top) b (length bottom) y ≡ 0 → Matched top t bottom b × (y < t .height * 2)
+line-judged top t bottom b y done =
+    let past-line = rest-passes 3 _ _ (lit< tt) done in
+    let past-shapes = rest-passes 4 _ _ (lit< tt) past-line in
+    let past-sizes = rest-passes 5 _ _ (lit< tt) past-shapes in
+    let shapes = both-inside (goodLines t) (goodLines b) (first-passes 4 _ _ (lit< tt) past-line) in
+    let wholes = both-inside _ _ (first-passes 6 _ _ (lit< tt) past-sizes) in (
+      record {
+        top-good = shapes .0;
+        bottom-good = shapes .1;
+        alike = first-passes 5 _ _ (lit< tt) past-shapes;
+        top-whole = leb-true _ _ (wholes .0);
+        bottom-whole = leb-true _ _ (wholes .1);
+      },
+      ltb-true y (t .height * 2) (first-passes 3 _ _ (lit< tt) done),
+    )

@@ -1,0 +1,5 @@
+-- Laws that several proofs cite, and the claims. Assumes nothing.
+pub mod General
+pub mod Fields
+pub mod Judged
+pub mod Claims

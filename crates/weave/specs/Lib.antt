@@ -1,0 +1,3 @@
+-- The definitions that the contracts of `weave` cite, and the claims. Assumes nothing.
+pub mod Weave
+pub mod Claims
