@@ -1,0 +1,8 @@
+-- Laws that several proofs cite, and the claims. Assumes nothing.
+pub mod General
+pub mod Packed
+pub mod Judged
+pub mod Calls
+pub mod Kept
+pub mod Held
+pub mod Claims

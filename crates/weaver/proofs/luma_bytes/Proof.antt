@@ -1,0 +1,25 @@
+-- `weaver::luma_bytes` meets its contract. Assumes nothing.
+use Rattle.weaver.proofs.General.{product-most}
+use Prim.Native.Nat.{ℕ, _*_}
+use mathlib.Core.Path.{ap}
+use native.Mathlib.Omega.{arith}
+use borrow.Author.Needs.{needs}
+use Rattle.weaver.proofs.luma_bytes.Statement.{statement}
+use Rattle.weaver.proofs.luma_bytes.Tie as tie
+
+row-bytes-requires : tie.Need-row-bytes-requires
+row-bytes-requires c κs = search needs
+
+cast-result : tie.Need-cast-result
+cast-result c = search needs
+
+mul-result : tie.Need-mul-result
+mul-result c = omega (arith, product-most (c .before .args .height) (c .row-bytes .result) (omega arith) (c .row-bytes .ensures .1))
+
+returns : tie.Need-returns
+returns c =
+    let a = c .before .args in
+    (ap (λ (n : ℕ). a .height * n) (c .row-bytes .ensures .0), product-most (a .height) (c .row-bytes .result) (omega arith) (c .row-bytes .ensures .1))
+
+pub luma-bytes-spec : {M : Type 1} → statement M
+luma-bytes-spec = tie.close (tie.spec row-bytes-requires cast-result mul-result returns)
