@@ -1,0 +1,5 @@
+-- Laws that several proofs cite, and the claims. Assumes nothing.
+pub mod General
+pub mod Rows
+pub mod Passed
+pub mod Claims

@@ -1,0 +1,49 @@
+-- What a call that gets 0 has passed, and what it has written. Assumes nothing.
+use Prim.Native.Nat.{ℕ}
+use mathlib.Core.Path.{_≡_, sym, ap, _∙_}
+use mathlib.Core.Bool.{Bool, true, _&&_, and-eq-true-iff}
+use mathlib.Core.List.{List}
+use lib.Dec.{lit<}
+use borrow.Author.Tests.{leb-true}
+use Rattle.laws.specs.Refusal.{written}
+use Rattle.laws.specs.Rows.{over}
+use Rattle.laws.proofs.Refusal.{first-passes, rest-passes, written-done}
+use Rattle.plane.specs.declared.Shape.{Shape}
+use Rattle.readback.specs.declared.Readback.{Readback}
+use Rattle.readback.specs.Readback.{lumaShape, cbShape, crShape, crBytes, readbackNo, copiedOf}
+use Rattle.readback.specs.Inner.{PlaneReady}
+
+-- the planes and outputs of a call
+pub record FrameReady (r : Readback) (luma second third luma-room cb-room cr-room : ℕ) : Type 0 where
+  pub luma-ready : PlaneReady (lumaShape r) luma luma-room
+  pub cb-ready : PlaneReady (cbShape r) second cb-room
+  pub cr-ready : PlaneReady (crShape r) (crBytes r second third) cr-room
+
+each-of-three : (a b c : Bool) → (a && b && c) ≡ true → (a ≡ true) × (b ≡ true) × (c ≡ true)
+each-of-three a b c h =
+    let front = and-eq-true-iff (a && b) c .0 h in
+    let both = and-eq-true-iff a b .0 (front .0) in
+    (both .0, both .1, front .1)
+
+pub frame-passed :
+    (r : Readback) (luma second third luma-room cb-room cr-room : ℕ) {no : ℕ} →
+    no ≡ readbackNo r luma second third luma-room cb-room cr-room → no ≡ 0 → FrameReady r luma second third luma-room cb-room cr-room
+frame-passed r luma second third luma-room cb-room cr-room e done =
+    let zero-no : readbackNo r luma second third luma-room cb-room cr-room ≡ 0 = sym e ∙ done in
+    let behind-chroma = rest-passes 2 _ _ (lit< tt) (rest-passes 1 _ _ (lit< tt) zero-no) in
+    let behind-shapes = rest-passes 4 _ _ (lit< tt) behind-chroma in
+    let shapes = each-of-three _ _ _ (first-passes 4 _ _ (lit< tt) behind-chroma) in
+    let planes = each-of-three _ _ _ (first-passes 6 _ _ (lit< tt) behind-shapes) in
+    let rooms = each-of-three _ _ _ (first-passes 7 _ _ (lit< tt) (rest-passes 6 _ _ (lit< tt) behind-shapes)) in
+    record {
+      luma-ready = record { good = shapes .0; long = leb-true _ _ (planes .0); roomy = leb-true _ _ (rooms .0) };
+      cb-ready = record { good = shapes .1; long = leb-true _ _ (planes .1); roomy = leb-true _ _ (rooms .1) };
+      cr-ready = record { good = shapes .2; long = leb-true _ _ (planes .2); roomy = leb-true _ _ (rooms .2) };
+    }
+
+-- an output after its plane is copied, where the number is 0
+pub copy-written :
+    (bytes old : List ℕ) (shape : Shape) {no : ℕ} {s : Shape} {new : List ℕ} →
+    no ≡ 0 → s ≡ shape → new ≡ over (copiedOf bytes s) old → new ≡ written no (over (copiedOf bytes shape) old) old
+copy-written bytes old shape done same e =
+    written-done (over (copiedOf bytes shape) old) old (sym done) (e ∙ ap (λ (s : Shape). over (copiedOf bytes s) old) same)

@@ -1,0 +1,17 @@
+-- `readback::chroma_layout` meets its contract. Assumes nothing.
+use mathlib.Core.Path.{sym, _∙_}
+use borrow.Author.Needs.{needs}
+use Rattle.readback.proofs.chroma_layout.Statement.{statement}
+use Rattle.readback.proofs.chroma_layout.Tie as tie
+
+is-shared-requires : tie.Need-is-shared-requires
+is-shared-requires c κs = search needs
+
+returns : tie.Need-returns
+returns c = simp (sym (c .before .is-shared .ensures) ∙ c .if1 .taken)
+
+returns-2 : tie.Need-returns-2
+returns-2 c = simp (sym (c .before .is-shared .ensures) ∙ c .if1 .left)
+
+pub chroma-layout-spec : {M : Type 1} → statement M
+chroma-layout-spec = tie.close (tie.spec is-shared-requires returns returns-2)

@@ -1,0 +1,79 @@
+-- `readback::copy_pairs` meets its contract. The loop keeps `Stacked` of the columns passed. Assumes nothing.
+use Prim.Native.Nat.{_-_, _*_, _/_, _%_}
+use mathlib.Core.Path.{refl}
+use mathlib.Core.List.{[], _∷_}
+use native.Mathlib.Omega.{arith}
+use lib.ListN.{length-set}
+use Rattle.laws.proofs.Lists.{Stacked, stack-starts}
+use Rattle.readback.specs.Inner.{pairOf}
+use Rattle.readback.proofs.General.{stacks-two, stack-fills}
+use borrow.Author.Needs.{needs}
+use Rattle.readback.proofs.copy_pairs.Statement.{statement}
+use Rattle.readback.proofs.copy_pairs.Tie as tie
+
+abbrev Inv-loop : tie.InvT-loop
+Inv-loop to₀ row width right x₀ to x = Stacked (λ x. pairOf row (x * 2) right) 2 width to₀ to x
+
+abbrev μ-loop : tie.MeasureT-loop
+μ-loop to₀ row width right x₀ to x = width - x
+
+loop-holds : tie.Need-loop-holds Inv-loop μ-loop
+loop-holds c = stack-starts (λ x. refl)
+
+mul-i : tie.Need-mul-i Inv-loop μ-loop
+mul-i c = omega arith
+
+code-at-requires : tie.Need-code-at-requires Inv-loop μ-loop
+code-at-requires c κs = (omega arith, c .before .before .before .before .pre .1)
+
+cast-to : tie.Need-cast-to Inv-loop μ-loop
+cast-to c = omega arith
+
+slice-write-to : tie.Need-slice-write-to Inv-loop μ-loop
+slice-write-to c = omega arith
+
+cast-to-2 : tie.Need-cast-to-2 Inv-loop μ-loop
+cast-to-2 c = omega arith
+
+add-to : tie.Need-add-to Inv-loop μ-loop
+add-to c = omega arith
+
+slice-write-to-2 : tie.Need-slice-write-to-2 Inv-loop μ-loop
+slice-write-to-2 c = rw length-set (omega arith)
+
+add-x : tie.Need-add-x Inv-loop μ-loop
+add-x c = omega arith
+
+loop-less : tie.Need-loop-less Inv-loop μ-loop
+loop-less c = omega arith
+
+loop-again : tie.Need-loop-again Inv-loop μ-loop
+loop-again c =
+    stacks-two (λ x. refl) (c .before .before .loop .inv) (c .before .loop-test .taken) (omega arith)
+    (λ i. c .code-at .ensures .0 i % 256 ∷ c .code-at .ensures .0 i / 256 ∷ [])
+
+same-length : tie.Need-same-length Inv-loop μ-loop
+same-length c = search needs
+
+returns : tie.Need-returns Inv-loop μ-loop
+returns c = stack-fills (λ x. refl) (c .before .loop .inv) (c .loop-test .left) (c .before .before .before .before .pre .0 .target)
+
+pub copy-pairs-spec : {M : Type 1} → statement M
+copy-pairs-spec =
+    tie.close
+    (tie.spec
+    Inv-loop
+    μ-loop
+    loop-holds
+    mul-i
+    code-at-requires
+    cast-to
+    slice-write-to
+    cast-to-2
+    add-to
+    slice-write-to-2
+    add-x
+    loop-less
+    loop-again
+    same-length
+    returns)

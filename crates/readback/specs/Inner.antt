@@ -1,0 +1,63 @@
+-- How the inner functions copy a row. Only inner functions cite this file. Assumes nothing.
+use Prim.Native.Nat.{ℕ, _+_, _*_, _/_, _%_, _^_, _≤_}
+use mathlib.Core.Path.{_≡_}
+use mathlib.Core.Bool.{Bool, true, false, cond}
+use mathlib.Core.List.{List, [], _∷_}
+use lib.Dec.{leb}
+use lib.ListN.{length, getD}
+use Rattle.plane.specs.declared.Shape.{Shape}
+use Rattle.plane.specs.declared.Layout.{Layout}
+use Rattle.plane.specs.declared.Layout.the-variants.{Planar, Luma, First, Second}
+use Rattle.plane.specs.Plane.{goodShape, planeBytes}
+use Rattle.readback.specs.declared.Kind.{Kind}
+use Rattle.readback.specs.declared.Kind.the-variants.{Byte, EverySecondByte, Pair, EverySecondPair}
+use Rattle.readback.specs.Readback.{packedBytes}
+
+-- a row holds samples of one component
+abbrev pub alone : Layout → Bool
+alone Planar = true
+alone Luma = true
+alone First = false
+alone Second = false
+
+abbrev pub kindBy : Bool → Bool → Kind
+kindBy byte one = cond byte (cond one Byte EverySecondByte) (cond one Pair EverySecondPair)
+
+abbrev pub kindOf : Shape → Kind
+kindOf s = kindBy (leb (s .depth) 8) (alone (s .layout))
+
+-- how many bytes of a row each column has, and how many of the copy
+abbrev pub stepOf : Kind → ℕ
+stepOf Byte = 1
+stepOf EverySecondByte = 2
+stepOf Pair = 2
+stepOf EverySecondPair = 4
+
+abbrev pub sizeOf : Kind → ℕ
+sizeOf Byte = 1
+sizeOf EverySecondByte = 1
+sizeOf Pair = 2
+sizeOf EverySecondPair = 2
+
+-- the number that two bytes are, the low one first, shifted right and given as two bytes again
+abbrev pub pairOf : List ℕ → ℕ → ℕ → List ℕ
+pairOf row i right =
+    (getD row i 0 + 256 * getD row (i + 1) 0) / 2 ^ right % 256 ∷ (getD row i 0 + 256 * getD row (i + 1) 0) / 2 ^ right / 256 ∷ []
+
+-- the bytes that column x of a row has in the copy
+abbrev pub copyIn : Kind → List ℕ → ℕ → ℕ → ℕ → List ℕ
+copyIn Byte row lane right x = getD row x 0 ∷ []
+copyIn EverySecondByte row lane right x = getD row (x * 2 + lane) 0 ∷ []
+copyIn Pair row lane right x = pairOf row (x * 2) right
+copyIn EverySecondPair row lane right x = pairOf row ((x * 2 + lane) * 2) right
+
+-- a row, and a place for just its copy
+pub record RowRoom (kind : Kind) (width : ℕ) (to row : List ℕ) : Type 0 where
+  pub source : length row ≡ width * stepOf kind
+  pub target : length to ≡ width * sizeOf kind
+
+-- What a call that gets 0 has passed, of one plane: its shape is within the bounds, it has the bytes that it needs, its output has room.
+pub record PlaneReady (s : Shape) (bytes room : ℕ) : Type 0 where
+  pub good : goodShape s ≡ true
+  pub long : planeBytes s ≤ bytes
+  pub roomy : packedBytes s ≤ room

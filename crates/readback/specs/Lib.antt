@@ -1,0 +1,4 @@
+-- The definitions that the contracts of `readback` cite, and the claims. Assumes nothing.
+pub mod Readback
+pub mod Inner
+pub mod Claims

@@ -1,0 +1,73 @@
+-- A frame read back from a device (document 01, "Fields and readback"; the source is `frame_of_readback` in weave.rs): its number, and the three
+-- planes that are copied out. Assumes nothing.
+use Prim.Native.Nat.{ℕ, _*_, _/_, _%_}
+use mathlib.Core.Bool.{Bool, cond, _&&_}
+use mathlib.Core.List.{List, [], _∷_}
+use lib.Dec.{leb, eqb}
+use Rattle.laws.specs.Refusal.{lowest}
+use Rattle.laws.specs.Rows.{laid}
+use Rattle.plane.specs.declared.Shape.{Shape}
+use Rattle.plane.specs.declared.Layout.{Layout}
+use Rattle.plane.specs.declared.Layout.the-variants.{Luma, First, Second}
+use Rattle.plane.specs.Plane.{goodShape, planeBytes, sampleBytes, codeOf, half}
+use Rattle.readback.specs.declared.Readback.{Readback}
+
+-- ---- the planes that were read back
+
+-- Codes above 8 bits stand in the high bits, as in the layouts of a biplanar frame. Two planes are luma and the shared chroma; three are luma and
+-- the two chroma planes.
+abbrev pub lumaShape : Readback → Shape
+lumaShape r = record { width = r .width; height = r .height; depth = r .depth; stride = r .«luma_pitch»; layout = Luma }
+
+abbrev pub shared : Readback → Bool
+shared r = eqb (r .planes) 2
+
+abbrev pub cbShape : Readback → Shape
+cbShape r =
+    record { width = half (r .width); height = half (r .height); depth = r .depth; stride = r .«second_pitch»; layout = cond (shared r) First Luma }
+
+abbrev pub crShape : Readback → Shape
+crShape r = record {
+  width = half (r .width);
+  height = half (r .height);
+  depth = r .depth;
+  stride = cond (shared r) (r .«second_pitch») (r .«third_pitch»);
+  layout = cond (shared r) Second Luma;
+}
+
+-- the bytes that cr is read from: of two planes the second, of three the third
+abbrev pub crBytes : {A : Type 0} → Readback → A → A → A
+crBytes r second third = cond (shared r) second third
+
+-- ---- the number
+
+-- 1: there is no plane, or more than three. 2: there is only luma. 4: a shape is outside the bounds. 6: a plane is shorter than its shape needs.
+-- 7: an output is too short. The chroma planes have no sizes of their own, so that nothing can differ (5). A plane beyond the count is not looked at.
+abbrev pub packedBytes : Shape → ℕ
+packedBytes s = s .height * (s .width * sampleBytes (s .depth))
+
+abbrev pub readbackTests : Readback → ℕ → ℕ → ℕ → ℕ → ℕ → ℕ → List (ℕ × Bool)
+readbackTests r luma second third luma-room cb-room cr-room =
+    (1, leb 1 (r .planes) && leb (r .planes) 3)
+    ∷ (2, leb 2 (r .planes))
+    ∷ (4, goodShape (lumaShape r) && goodShape (cbShape r) && goodShape (crShape r))
+    ∷ (6, leb (planeBytes (lumaShape r)) luma && leb (planeBytes (cbShape r)) second && leb (planeBytes (crShape r)) (crBytes r second third))
+    ∷ (7, leb (packedBytes (lumaShape r)) luma-room && leb (packedBytes (cbShape r)) cb-room && leb (packedBytes (crShape r)) cr-room)
+    ∷ []
+
+abbrev pub readbackNo : Readback → ℕ → ℕ → ℕ → ℕ → ℕ → ℕ → ℕ
+readbackNo r luma second third luma-room cb-room cr-room = lowest (readbackTests r luma second third luma-room cb-room cr-room)
+
+-- ---- the copy
+
+-- a code as a plane stores it: one byte, or two with the low byte first
+abbrev pub codeBytes : ℕ → ℕ → List ℕ
+codeBytes depth code = cond (leb depth 8) (code ∷ []) (code % 256 ∷ code / 256 ∷ [])
+
+-- Readback drops padding, shifts codes above 8 bits right by 16 - depth, and separates shared chroma: the codes of the plane's own component, row
+-- by row.
+unfoldable pub copiedRow : List ℕ → Shape → ℕ → List ℕ
+copiedRow bytes s y = laid (s .width) (λ x. codeBytes (s .depth) (codeOf bytes s x y))
+
+unfoldable pub copiedOf : List ℕ → Shape → List ℕ
+copiedOf bytes s = laid (s .height) (copiedRow bytes s)

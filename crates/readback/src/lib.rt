@@ -1,0 +1,449 @@
+// Copyright 2026 Till0196
+// SPDX-License-Identifier: Apache-2.0
+// Carried over from core/src/decode/weave.rs (`frame_of_readback`), and changed: planes are lent slices
+// beside their pitches, the frame goes to three lent outputs, what is out of bounds is refused by
+// number, and judging stands apart from copying.
+//
+// A frame read back from a device: padding is dropped, codes in the high bits are brought down, and
+// chroma that shares a plane is separated. Assumes nothing.
+ghost use mathlib.Core.Path.{_≡_};
+ghost use mathlib.Core.Bool.{cond, _&&_};
+ghost use mathlib.Core.List.{[], _∷_};
+ghost use Prim.Native.Nat.{_+_, _*_, _/_, _^_, _<_, _≤_};
+ghost use lib.Dec.{leb};
+ghost use lib.ListN.{length, getD, take, drop};
+ghost use Rattle.laws.specs.Refusal.{lowest, written};
+ghost use Rattle.laws.specs.Rows.{laid, over};
+ghost use Rattle.plane.specs.declared.Layout.the-variants.{Luma};
+ghost use Rattle.plane.specs.Plane.{component, sampleBytes, goodShape, planeBytes, biplanar, shift, half};
+ghost use Rattle.readback.specs.Readback.{lumaShape, shared, cbShape, crShape, crBytes, packedBytes, readbackNo, copiedOf};
+ghost use Rattle.readback.specs.Inner.{alone, kindOf, stepOf, copyIn, RowRoom, PlaneReady};
+ghost use Rattle.readback.specs.declared.Kind.the-variants.{Byte, EverySecondByte, Pair, EverySecondPair};
+use plane::Layout;
+use plane::Shape;
+
+// What was read back: how many planes, the frame's size and depth, and each plane's bytes from one row
+// to the next. A plane beyond the count is not looked at.
+pub struct Readback {
+    pub planes: u8,
+    pub width: u16,
+    pub height: u16,
+    pub depth: u8,
+    pub luma_pitch: u32,
+    pub second_pitch: u32,
+    pub third_pitch: u32,
+}
+
+// How a row holds the samples of a component.
+enum Kind {
+    // One byte each, from end to end.
+    Byte,
+    // One byte each, every second one another component's.
+    EverySecondByte,
+    // Two bytes each, the low one first, from end to end.
+    Pair,
+    // Two bytes each, every second pair another component's.
+    EverySecondPair,
+}
+
+// ---- the planes that were read back
+
+fn is_shared(about: Readback) -> bool
+    ensures { λ r. ⌜ r ≡ shared about ⌝ }
+{
+    about.planes == 2
+}
+
+fn half_of(n: u16) -> u16
+    ensures { λ r. ⌜ r ≡ half n ⌝ }
+{
+    ((n as u32 + 1) / 2) as u16
+}
+
+// A component's layout where chroma shares a plane, and that of a plane of its own.
+fn chroma_layout(about: Readback, lane: Layout) -> Layout
+    ensures { λ r. ⌜ r ≡ cond (shared about) lane Luma ⌝ }
+{
+    if is_shared(about) { lane } else { Layout::Luma }
+}
+
+fn luma_shape(about: Readback) -> Shape
+    ensures { λ r. ⌜ r ≡ lumaShape about ⌝ }
+{
+    Shape {
+        width: about.width,
+        height: about.height,
+        depth: about.depth,
+        stride: about.luma_pitch,
+        layout: Layout::Luma,
+    }
+}
+
+fn cb_shape(about: Readback) -> Shape
+    ensures { λ r. ⌜ r ≡ cbShape about ⌝ }
+{
+    let columns = half_of(about.width);
+    let rows = half_of(about.height);
+    let layout = chroma_layout(about, Layout::First);
+    Shape {
+        width: columns,
+        height: rows,
+        depth: about.depth,
+        stride: about.second_pitch,
+        layout: layout,
+    }
+}
+
+fn cr_pitch(about: Readback) -> u32
+    ensures { λ r. ⌜ r ≡ cond (shared about) (about .«second_pitch») (about .«third_pitch») ⌝ }
+{
+    if is_shared(about) {
+        about.second_pitch
+    } else {
+        about.third_pitch
+    }
+}
+
+fn cr_shape(about: Readback) -> Shape
+    ensures { λ r. ⌜ r ≡ crShape about ⌝ }
+{
+    let columns = half_of(about.width);
+    let rows = half_of(about.height);
+    let pitch = cr_pitch(about);
+    let layout = chroma_layout(about, Layout::Second);
+    Shape {
+        width: columns,
+        height: rows,
+        depth: about.depth,
+        stride: pitch,
+        layout: layout,
+    }
+}
+
+// ---- the number
+
+fn sample_bytes(depth: u8) -> usize
+    ensures { λ r. ⌜ (r ≡ sampleBytes depth) × (r ≤ 2) ⌝ }
+{
+    if depth <= 8 { 1 } else { 2 }
+}
+
+// A row without padding.
+fn packed_row(s: Shape) -> usize
+    ensures { λ r. ⌜ (r ≡ s .width * sampleBytes (s .depth)) × (r ≤ 131070) ⌝ }
+{
+    (s.width as usize) * sample_bytes(s.depth)
+}
+
+fn packed_bytes(s: Shape) -> usize
+    ensures { λ r. ⌜ r ≡ packedBytes s ⌝ }
+{
+    (s.height as usize) * packed_row(s)
+}
+
+// How long the plane is that cr is read from.
+fn cr_length(about: Readback, second: usize, third: usize) -> usize
+    ensures { λ r. ⌜ r ≡ crBytes about second third ⌝ }
+{
+    if is_shared(about) { second } else { third }
+}
+
+fn good_shapes(about: Readback) -> bool
+    ensures { λ r. ⌜ r ≡ (goodShape (lumaShape about) && goodShape (cbShape about) && goodShape (crShape about)) ⌝ }
+{
+    plane::good_shape(luma_shape(about))
+        & plane::good_shape(cb_shape(about))
+        & plane::good_shape(cr_shape(about))
+}
+
+fn planes_reach(about: Readback, luma: usize, second: usize, third: usize) -> bool
+    ensures { λ r. ⌜ r ≡ (leb (planeBytes (lumaShape about)) luma && leb (planeBytes (cbShape about)) second && leb (planeBytes (crShape about)) (crBytes about second third)) ⌝ }
+{
+    let cr = cr_length(about, second, third);
+    (plane::plane_bytes(luma_shape(about)) <= luma)
+        & (plane::plane_bytes(cb_shape(about)) <= second)
+        & (plane::plane_bytes(cr_shape(about)) <= cr)
+}
+
+fn outputs_hold(about: Readback, luma_room: usize, cb_room: usize, cr_room: usize) -> bool
+    ensures { λ r. ⌜ r ≡ (leb (packedBytes (lumaShape about)) «luma_room» && leb (packedBytes (cbShape about)) «cb_room» && leb (packedBytes (crShape about)) «cr_room») ⌝ }
+{
+    (packed_bytes(luma_shape(about)) <= luma_room)
+        & (packed_bytes(cb_shape(about)) <= cb_room)
+        & (packed_bytes(cr_shape(about)) <= cr_room)
+}
+
+// The number of the first test that fails, and 0 where none does.
+fn lowest_of(count: bool, chroma: bool, shape: bool, short_input: bool, short_output: bool) -> u8
+    ensures { λ r. ⌜ r ≡ lowest ((1, count) ∷ (2, chroma) ∷ (4, shape) ∷ (6, «short_input») ∷ (7, «short_output») ∷ []) ⌝ }
+{
+    if !count {
+        return plane::refusal::PLANE_COUNT;
+    }
+    if !chroma {
+        return plane::refusal::ONLY_LUMA;
+    }
+    if !shape {
+        return plane::refusal::SHAPE;
+    }
+    if !short_input {
+        return plane::refusal::SHORT_INPUT;
+    }
+    if short_output {
+        plane::refusal::DONE
+    } else {
+        plane::refusal::SHORT_OUTPUT
+    }
+}
+
+// The number of `frame_of_readback`, from the lengths of what is lent: 1, 2, 4, 6 or 7.
+pub fn readback_no(
+    about: Readback,
+    luma: usize,
+    second: usize,
+    third: usize,
+    luma_room: usize,
+    cb_room: usize,
+    cr_room: usize,
+) -> u8
+    ensures { λ r. ⌜ r ≡ readbackNo about luma second third «luma_room» «cb_room» «cr_room» ⌝ }
+{
+    lowest_of(
+        (1 <= about.planes) & (about.planes <= 3),
+        2 <= about.planes,
+        good_shapes(about),
+        planes_reach(about, luma, second, third),
+        outputs_hold(about, luma_room, cb_room, cr_room),
+    )
+}
+
+// ---- the copy
+
+fn wide(byte: u8) -> u16
+    ensures { λ r. ⌜ (r ≡ byte) × (r < 256) ⌝ }
+{
+    byte as u16
+}
+
+// The number that two bytes of a row are, the low one first, shifted right.
+fn code_at(row: &[u8], i: usize, right: u16) -> u16
+    requires { ⌜ (i + 1 < length (now row)) × (right ≤ 7) ⌝ }
+    ensures { λ r. ⌜ (r ≡ (getD (now (row .entry)) i 0 + 256 * getD (now (row .entry)) (i + 1) 0) / 2 ^ right) × (r < 65536) ⌝ }
+{
+    (wide(row[i]) + 256 * wide(row[i + 1])) >> right
+}
+
+// A row for each kind. The loops run over parts and ask nothing of a sample, so that they are vectorised.
+fn copy_bytes(to: &mut [u8], row: &[u8], width: usize)
+    requires { ⌜ RowRoom Byte width (now to) (now row) ⌝ }
+    ensures { λ _. ⌜ now (to .exit) ≡ laid width (copyIn Byte (now (row .entry)) 0 0) ⌝ }
+{
+    let mut x = 0;
+    while x < width {
+        to[x] = row[x];
+        x += 1;
+    }
+}
+
+fn copy_every_second_byte(to: &mut [u8], row: &[u8], width: usize, lane: usize)
+    requires { ⌜ RowRoom EverySecondByte width (now to) (now row) × (lane ≤ 1) ⌝ }
+    ensures { λ _. ⌜ now (to .exit) ≡ laid width (copyIn EverySecondByte (now (row .entry)) lane 0) ⌝ }
+{
+    let mut x = 0;
+    while x < width {
+        to[x] = row[x * 2 + lane];
+        x += 1;
+    }
+}
+
+fn copy_pairs(to: &mut [u8], row: &[u8], width: usize, right: u16)
+    requires { ⌜ RowRoom Pair width (now to) (now row) × (right ≤ 7) ⌝ }
+    ensures { λ _. ⌜ now (to .exit) ≡ laid width (copyIn Pair (now (row .entry)) 0 right) ⌝ }
+{
+    let mut x = 0;
+    while x < width {
+        let i = x * 2;
+        let code = code_at(row, i, right);
+        to[i] = (code % 256) as u8;
+        to[i + 1] = (code / 256) as u8;
+        x += 1;
+    }
+}
+
+fn copy_every_second_pair(to: &mut [u8], row: &[u8], width: usize, lane: usize, right: u16)
+    requires { ⌜ RowRoom EverySecondPair width (now to) (now row) × (lane ≤ 1) × (right ≤ 7) ⌝ }
+    ensures { λ _. ⌜ now (to .exit) ≡ laid width (copyIn EverySecondPair (now (row .entry)) lane right) ⌝ }
+{
+    let mut x = 0;
+    while x < width {
+        let i = x * 2;
+        let code = code_at(row, (i + lane) * 2, right);
+        to[i] = (code % 256) as u8;
+        to[i + 1] = (code / 256) as u8;
+        x += 1;
+    }
+}
+
+fn copy_row(kind: Kind, to: &mut [u8], row: &[u8], width: usize, lane: usize, right: u16)
+    requires { ⌜ RowRoom kind width (now to) (now row) × (lane ≤ 1) × (right ≤ 7) ⌝ }
+    ensures { λ _. ⌜ now (to .exit) ≡ laid width (copyIn kind (now (row .entry)) lane right) ⌝ }
+{
+    match kind {
+        Kind::Byte => copy_bytes(to, row, width),
+        Kind::EverySecondByte => copy_every_second_byte(to, row, width, lane),
+        Kind::Pair => copy_pairs(to, row, width, right),
+        Kind::EverySecondPair => copy_every_second_pair(to, row, width, lane, right),
+    }
+}
+
+fn is_alone(layout: Layout) -> bool
+    ensures { λ r. ⌜ r ≡ alone layout ⌝ }
+{
+    match layout {
+        Layout::Planar => true,
+        Layout::Luma => true,
+        Layout::First => false,
+        Layout::Second => false,
+    }
+}
+
+fn lane_of(layout: Layout) -> usize
+    ensures { λ r. ⌜ (r ≡ component layout) × (r ≤ 1) ⌝ }
+{
+    match layout {
+        Layout::Planar => 0,
+        Layout::Luma => 0,
+        Layout::First => 0,
+        Layout::Second => 1,
+    }
+}
+
+fn is_biplanar(layout: Layout) -> bool
+    ensures { λ r. ⌜ r ≡ biplanar layout ⌝ }
+{
+    match layout {
+        Layout::Planar => false,
+        Layout::Luma => true,
+        Layout::First => true,
+        Layout::Second => true,
+    }
+}
+
+fn shift_of(layout: Layout, depth: u8) -> u16
+    requires { ⌜ depth ≤ 16 ⌝ }
+    ensures { λ r. ⌜ (r ≡ shift layout depth) × (r ≤ 7) ⌝ }
+{
+    if is_biplanar(layout) & (9 <= depth) {
+        16 - depth as u16
+    } else {
+        0
+    }
+}
+
+fn kind_of(s: Shape) -> Kind
+    ensures { λ r. ⌜ r ≡ kindOf s ⌝ }
+{
+    let layout = s.layout;
+    if s.depth <= 8 {
+        if is_alone(layout) {
+            Kind::Byte
+        } else {
+            Kind::EverySecondByte
+        }
+    } else {
+        if is_alone(layout) {
+            Kind::Pair
+        } else {
+            Kind::EverySecondPair
+        }
+    }
+}
+
+// How many bytes of a row each column has.
+fn step_of(kind: Kind) -> usize
+    ensures { λ r. ⌜ (r ≡ stepOf kind) × (r ≤ 4) ⌝ }
+{
+    match kind {
+        Kind::Byte => 1,
+        Kind::EverySecondByte => 2,
+        Kind::Pair => 2,
+        Kind::EverySecondPair => 4,
+    }
+}
+
+// The row of n bytes that starts at a place of the plane.
+fn row_at(plane: &[u8], start: usize, n: usize) -> &[u8]
+    requires { ⌜ start + n ≤ length (now plane) ⌝ }
+    ensures { λ r. ⌜ now r ≡ take n (drop start (now (plane .entry))) ⌝ }
+{
+    &plane[start..start + n]
+}
+
+// Each row of a plane, without its padding, behind the one above it. The kind is found once.
+fn copy_rows(out: &mut [u8], plane: &[u8], s: Shape)
+    requires { ⌜ PlaneReady s (length (now plane)) (length (now out)) ⌝ }
+    ensures { λ _. ⌜ now (out .exit) ≡ over (copiedOf (now (plane .entry)) s) (now (out .entry)) ⌝ }
+{
+    let layout = s.layout;
+    let kind = kind_of(s);
+    let lane = lane_of(layout);
+    let right = shift_of(layout, s.depth);
+    let width = s.width as usize;
+    let stride = s.stride as usize;
+    let taken = width * step_of(kind);
+    let size = packed_row(s);
+    let height = s.height as usize;
+    let mut y = 0;
+    while y < height {
+        let start = y * size;
+        let row = row_at(plane, y * stride, taken);
+        copy_row(kind, &mut out[start..start + size], row, width, lane, right);
+        y += 1;
+    }
+}
+
+fn copy_cr(out: &mut [u8], about: Readback, second: &[u8], third: &[u8])
+    requires { ⌜ PlaneReady (crShape about) (crBytes about (length (now second)) (length (now third))) (length (now out)) ⌝ }
+    ensures { λ _. ⌜ now (out .exit) ≡ over (copiedOf (crBytes about (now (second .entry)) (now (third .entry))) (crShape about)) (now (out .entry)) ⌝ }
+{
+    let s = cr_shape(about);
+    if is_shared(about) {
+        copy_rows(out, second, s);
+        return;
+    }
+    copy_rows(out, third, s);
+}
+
+// ---- the call
+
+pub fn frame_of_readback(
+    out_luma: &mut [u8],
+    out_cb: &mut [u8],
+    out_cr: &mut [u8],
+    about: Readback,
+    luma: &[u8],
+    second: &[u8],
+    third: &[u8],
+) -> u8
+    ensures { λ r. ⌜ r ≡ readbackNo about (length (now (luma .entry))) (length (now (second .entry))) (length (now (third .entry))) (length (now («out_luma» .entry))) (length (now («out_cb» .entry))) (length (now («out_cr» .entry))) ⌝ }
+    ensures { λ r. ⌜ now («out_luma» .exit) ≡ written r (over (copiedOf (now (luma .entry)) (lumaShape about)) (now («out_luma» .entry))) (now («out_luma» .entry)) ⌝ }
+    ensures { λ r. ⌜ now («out_cb» .exit) ≡ written r (over (copiedOf (now (second .entry)) (cbShape about)) (now («out_cb» .entry))) (now («out_cb» .entry)) ⌝ }
+    ensures { λ r. ⌜ now («out_cr» .exit) ≡ written r (over (copiedOf (crBytes about (now (second .entry)) (now (third .entry))) (crShape about)) (now («out_cr» .entry))) (now («out_cr» .entry)) ⌝ }
+{
+    let no = readback_no(
+        about,
+        luma.len(),
+        second.len(),
+        third.len(),
+        out_luma.len(),
+        out_cb.len(),
+        out_cr.len(),
+    );
+    if no == 0 {
+        copy_rows(out_luma, luma, luma_shape(about));
+        copy_rows(out_cb, second, cb_shape(about));
+        copy_cr(out_cr, about, second, third);
+        return no;
+    }
+    no
+}
