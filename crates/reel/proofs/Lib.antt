@@ -1,0 +1,7 @@
+-- Laws that the proofs of this crate share, and the claims. Assumes nothing.
+pub mod Pushes
+pub mod Turns
+pub mod Counted
+pub mod Fine
+pub mod Known
+pub mod Claims

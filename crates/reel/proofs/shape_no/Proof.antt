@@ -1,0 +1,18 @@
+-- `reel::shape_no` meets its contract. Assumes nothing.
+use borrow.Author.Needs.{needs}
+use Rattle.laws.specs.Refusal.{lowest}
+use Rattle.reel.proofs.shape_no.Statement.{statement}
+use Rattle.reel.proofs.shape_no.Tie as tie
+
+good-shape-requires : tie.Need-good-shape-requires
+good-shape-requires c κs = search needs
+
+lowest-of-requires : tie.Need-lowest-of-requires
+lowest-of-requires c κs = search needs
+
+returns : tie.Need-returns
+unfolding lowest
+returns c = simp (c .lowest-of .ensures, c .before .good-shape .ensures)
+
+pub shape-no-spec : {M : Type 1} → statement M
+shape-no-spec = tie.close (tie.spec good-shape-requires lowest-of-requires returns)

@@ -1,0 +1,5 @@
+-- The definitions that the contracts of `reel` cite, and the claims. Assumes nothing.
+pub mod Reel
+pub mod Machine
+pub mod Inner
+pub mod Claims
