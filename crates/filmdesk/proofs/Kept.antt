@@ -1,0 +1,79 @@
+-- Laws of a detector in the state's bytes. Assumes nothing.
+use Prim.Native.Nat.{ℕ, _*_, _≤_}
+use mathlib.Core.Path.{_≡_, ap, _∙_}
+use mathlib.Core.Bool.{Bool, true, false, cond}
+use mathlib.Core.List.{List, _++_}
+use native.Mathlib.Nat.{le-antisymm}
+use native.Mathlib.Omega.{arith}
+use borrow.Author.Tests.{le-leb}
+use lib.Dec.{eqb}
+use lib.ListN.{length, getD, drop, replicate, length-append, length-set}
+use Rattle.laws.specs.Refusal.{lowest, written}
+use Rattle.laws.specs.Rows.{listed, over}
+use Rattle.laws.proofs.Lists.{Filled, length-listed}
+use Rattle.field.specs.declared.Chosen.the-variants as chosen
+use Rattle.field.specs.declared.Parity.{Parity}
+use Rattle.plane.specs.declared.Shape.{Shape}
+use Rattle.packed.specs.Packed.{packedOf, packNo}
+use Rattle.pulldown.specs.declared.Lock.{Lock}
+use Rattle.pulldown.specs.declared.Seen.{Seen}
+use Rattle.pulldown.specs.declared.Seen.the-variants as seen
+use Rattle.pulldown.specs.Lock.{advanceOf}
+use Rattle.telecine.specs.declared.Detector.{Detector}
+use Rattle.telecine.specs.declared.Measured.{Measured}
+use Rattle.telecine.specs.Detector.{seenMeasured, measuredNo, measuredDetector, seenPicture, keptAs, pushNo, pushDetector}
+use Rattle.filmdesk.specs.Kept.{detectorIn, detectorNumbers, keeping}
+use Rattle.filmdesk.proofs.General.{listed-whole}
+
+-- ---- the numbers
+
+-- 26 numbers of which the first 15 are written are the ring's, and 11 zeros
+pub ring-and-room :
+    (ring numbers : List ℕ) (i : ℕ) → length ring ≡ 15 → Filled (λ i. getD ring i 0) (replicate 26 0) numbers i → i ≤ 15 → 15 ≤ i →
+    numbers ≡ ring ++ replicate 11 0
+ring-and-room ring numbers i e l most least =
+    l .exact
+    ∙ ap (λ (k : ℕ). listed k (λ i. getD ring i 0) ++ drop k (replicate 26 0)) (le-antisymm most least)
+    ∙ ap (λ (front : List ℕ). front ++ replicate 11 0) (listed-whole 0 15 ring e)
+
+pub count-of-numbers : (d : Detector) → length (d .lock .ring) ≡ 15 → length (detectorNumbers d) ≡ 26
+count-of-numbers d e = rw (length-append, e)
+
+-- what the write of a detector's numbers leaves
+pub numbers-kept :
+    (d : Detector) (numbers state new : List ℕ) (answer : ℕ) → length (d .lock .ring) ≡ 15 → 208 ≤ length state → numbers ≡ detectorNumbers d →
+    answer ≡ packNo (length numbers) (length state) → new ≡ written answer (over (packedOf numbers) state) state → new ≡ keeping d state
+unfolding lowest
+numbers-kept d numbers state new answer e room same number new-is =
+    let count : length numbers ≡ 26 = ap length same ∙ count-of-numbers d e in
+    let none : packNo (length numbers) (length state) ≡ 0 = simp (le-leb (8 * length numbers) (length state) (omega arith)) in
+    new-is
+    ∙ ap (λ (n : ℕ). written n (over (packedOf numbers) state) state) (number ∙ none)
+    ∙ ap (λ (list : List ℕ). over (packedOf list) state) same
+
+-- ---- the ring of every detector that a call hands back has 15 places
+pub found-ring : (bytes : List ℕ) → length (detectorIn bytes .lock .ring) ≡ 15
+unfolding detectorIn
+found-ring bytes = length-listed 15 _
+
+advanced-ring : (l : Lock) (s : Seen) → length (l .ring) ≡ 15 → length (advanceOf l s .ring) ≡ 15
+unfolding advanceOf
+advanced-ring l seen.NotComparable e = e
+advanced-ring l (seen.Symbol s) e = length-set (l .ring) _ _ ∙ e
+
+either-ring : (b : Bool) (x y : Detector) → length (x .lock .ring) ≡ 15 → length (y .lock .ring) ≡ 15 → length (cond b x y .lock .ring) ≡ 15
+either-ring true x y e f = e
+either-ring false x y e f = f
+
+pub measured-ring : (d : Detector) (first : Parity) (m : Measured) → length (d .lock .ring) ≡ 15 → length (measuredDetector d first m .lock .ring) ≡ 15
+measured-ring d first m e =
+    let s = seenMeasured (d .last) first m in
+    either-ring (eqb (measuredNo d) 0) (record { lock = advanceOf (d .lock) s; kept = d .kept; last = chosen.Field first }) d (advanced-ring (d .lock) s e) e
+
+pub pushed-ring :
+    (d : Detector) (store plane : List ℕ) (s : Shape) (first : Parity) → length (d .lock .ring) ≡ 15 →
+    length (pushDetector d store plane s first .lock .ring) ≡ 15
+pushed-ring d store plane s first e =
+    let seen = seenPicture (d .kept) store plane s first in
+    either-ring (eqb (pushNo d s (length plane) (length store)) 0) (record { lock = advanceOf (d .lock) seen; kept = keptAs s first; last = chosen.Field first }) d
+    (advanced-ring (d .lock) seen e) e

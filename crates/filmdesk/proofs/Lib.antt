@@ -1,0 +1,5 @@
+-- Laws that the proofs of this crate share, and the claims. Assumes nothing.
+pub mod General
+pub mod Kept
+pub mod Calls
+pub mod Claims

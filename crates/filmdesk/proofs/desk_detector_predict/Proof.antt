@@ -1,0 +1,72 @@
+-- `filmdesk::desk_detector_predict` meets its contract. Assumes nothing.
+use mathlib.Core.Path.{refl, ap, _∙_}
+use lib.ListN.{length}
+use denote.Ref.{now}
+use borrow.Author.Needs.{needs}
+use borrow.Author.Tests.{le-leb, lt-leb}
+use Rattle.laws.specs.Refusal.{lowest, whenDone}
+use Rattle.laws.proofs.Refusal.{number-behind}
+use Rattle.field.specs.Field.{cadenceNumber}
+use Rattle.pulldown.specs.Lock.{answerNo, answerValues, predictCadence}
+use Rattle.filmdesk.specs.Kept.{detectorIn}
+use Rattle.filmdesk.specs.Film.{predictStateNo}
+use Rattle.filmdesk.proofs.General.{Answered, said, value, stays}
+use Rattle.filmdesk.proofs.desk_detector_predict.Statement.{statement}
+use Rattle.filmdesk.proofs.desk_detector_predict.Tie as tie
+
+returns : tie.Need-returns
+unfolding lowest
+returns c = simp (lt-leb _ _ (c .if1 .taken)) (refl, refl)
+
+detector-in-requires : tie.Need-detector-in-requires
+detector-in-requires c κs = search needs
+
+predict-requires : tie.Need-predict-requires
+predict-requires c κs = search needs
+
+enum-known-foretold : tie.Need-enum-known-foretold
+enum-known-foretold c = search needs
+
+number-requires : tie.Need-number-requires
+number-requires c κs = search needs
+
+enum-known-no : tie.Need-enum-known-no
+enum-known-no c = search needs
+
+-- the detector's own answer, as one of this call
+answered :
+    (k : tie.After-predict) → let a = k .before .before .before .before .args in
+    Answered answerNo answerValues (k .predict .result) (predictStateNo (length (now (a .state))) (a .ahead)) (predictCadence (detectorIn (now (a .state)) .lock) (a .ahead))
+answered k =
+    let found = k .before in
+    let a = k .before .before .before .before .args in
+    let number = number-behind 6 (le-leb _ _ (found .before .if1 .left)) refl in
+    record {
+      number-is = k .predict .ensures .0 ∙ number;
+      values-are = k .predict .ensures .1 ∙ (λ i. whenDone (number i) (predictCadence (found .detector-in .ensures i .lock) (a .ahead)));
+    }
+
+returns-2 : tie.Need-returns-2
+returns-2 c =
+    let known = c .before .before in
+    let h = answered (known .before .before) in
+    (said h (known .foretold .given .1), c .number .ensures ∙ ap cadenceNumber (value h (known .foretold .given .1) refl refl))
+
+returns-3 : tie.Need-returns-3
+returns-3 c =
+    let known = c .before in
+    let h = answered (known .before .before) in
+    (said h (known .no .given .1), stays h (known .no .given .1) refl _ _)
+
+pub desk-detector-predict-spec : {M : Type 1} → statement M
+desk-detector-predict-spec =
+    tie.close
+    (tie.spec
+    returns
+    detector-in-requires
+    predict-requires
+    enum-known-foretold
+    number-requires
+    enum-known-no
+    returns-2
+    returns-3)

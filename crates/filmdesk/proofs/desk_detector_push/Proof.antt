@@ -1,0 +1,202 @@
+-- `filmdesk::desk_detector_push` meets its contract: codes, shape and state are tested here, and the rest is the detector's own answer.
+-- Assumes nothing.
+use Prim.Native.Nat.{ℕ, _*_}
+use mathlib.Core.Path.{_≡_, refl, sym, ap, _∙_}
+use mathlib.Core.Bool.{Bool, _&&_}
+use mathlib.Core.List.{_∷_}
+use lib.Dec.{leb}
+use lib.ListN.{length}
+use denote.Ref.{now}
+use borrow.Author.Needs.{needs}
+use Rattle.laws.specs.Refusal.{lowest, whenDone, written}
+use Rattle.laws.specs.Rows.{over}
+use Rattle.field.specs.Field.{cadenceNumber, parityNamed}
+use Rattle.plane.specs.Plane.{goodShape, planeBytes}
+use Rattle.block.specs.Block.{keptFrame}
+use Rattle.pulldown.specs.Lock.{answerNo, answerValues}
+use Rattle.telecine.specs.declared.Detector.{Detector}
+use Rattle.telecine.specs.Detector.{keptBytes, measuredTests, pushCadence, pushDetector, pushStore}
+use Rattle.desk.specs.Planes.{shapeNamed}
+use Rattle.filmdesk.specs.Kept.{detectorIn, keeping}
+use Rattle.filmdesk.specs.Film.{pushStateNo}
+use Rattle.filmdesk.proofs.General.{Answered, said, value, stays, refusal-stays}
+use Rattle.filmdesk.proofs.Kept.{found-ring, pushed-ring}
+use Rattle.filmdesk.proofs.Calls.{firstStep, first-step-refuses, first-step-passes, state-room}
+use Rattle.filmdesk.proofs.desk_detector_push.Statement.{statement}
+use Rattle.filmdesk.proofs.desk_detector_push.Tie as tie
+
+shape-named-requires : tie.Need-shape-named-requires
+shape-named-requires c κs = search needs
+
+good-shape-requires : tie.Need-good-shape-requires
+good-shape-requires c κs = search needs
+
+lowest-of-requires : tie.Need-lowest-of-requires
+lowest-of-requires c κs = search needs
+
+returns : tie.Need-returns
+returns c =
+    let judged = c .before in
+    let shape = judged .before .before .shape-named .ensures in
+    let a = judged .before .before .before .before .before .before .before .args in
+    let s = shapeNamed (a .shape) in
+    let d = detectorIn (now (a .state)) in
+    let bytes = length (now (a .plane)) in
+    let room = length (now (a .store)) in
+    let named = leb (a .shape .layout) 3 && leb (a .parity) 1 in
+    let long = leb 208 (length (now (a .state))) in
+    let step =
+    judged .lowest-of .ensures ∙ ap (λ (good : Bool). firstStep named good long) (judged .before .good-shape .ensures ∙ ap goodShape shape)
+    in (
+      step
+          ∙ first-step-refuses named (goodShape s) long (leb (planeBytes s) bytes) (leb (keptBytes (d .kept)) room) ((7, leb (s .height * s .width) room) ∷ measuredTests d)
+          (λ zero. c .if1 .taken (step ∙ zero)),
+      (
+        refusal-stays (judged .lowest-of .result) (c .if1 .taken) _ _,
+        (refusal-stays (judged .lowest-of .result) (c .if1 .taken) _ _, refusal-stays (judged .lowest-of .result) (c .if1 .taken) _ _),
+      ),
+    )
+
+detector-in-requires : tie.Need-detector-in-requires
+detector-in-requires c κs = search needs
+
+named-requires : tie.Need-named-requires
+named-requires c κs = search needs
+
+push-requires : tie.Need-push-requires
+push-requires c κs = search needs
+
+enum-known-answer : tie.Need-enum-known-answer
+enum-known-answer c = search needs
+
+-- the detector's own answer, as one of this call, and the detector and the store that it hands back
+answered :
+    (k : tie.After-push) → let a = k .before .before .before .before .before .before .before .before .before .before .before .before .before .args in
+    Answered answerNo answerValues (k .push .result .answer)
+    (pushStateNo (a .shape) (a .parity) (length (now (a .plane))) (length (now (a .store))) (length (now (a .state))) (detectorIn (now (a .state))))
+    (pushCadence (detectorIn (now (a .state))) (now (a .store)) (now (a .plane)) (shapeNamed (a .shape)) (parityNamed (a .parity)))
+answered k =
+    let found = k .before .before .before in
+    let passed = found .before .before in
+    let judged = passed .before in
+    let shaped = judged .before .before in
+    let a = shaped .before .before .before .before .before .args in
+    let d = found .detector-in .ensures in
+    let s = shaped .shape-named .ensures in
+    let bytes = length (now (a .plane)) in
+    let room = length (now (a .store)) in
+    let named = leb (a .shape .layout) 3 && leb (a .parity) 1 in
+    let long = leb 208 (length (now (a .state))) in
+    let picture = shaped .shape-named .result in
+    let before = found .detector-in .result in
+    let step =
+    ap (λ (good : Bool). firstStep named good long) (sym (judged .before .good-shape .ensures)) ∙ sym (judged .lowest-of .ensures) ∙ passed .if1 .left
+    in
+    let number =
+    first-step-passes named (goodShape picture) long (leb (planeBytes picture) bytes) (leb (keptBytes (before .kept)) room)
+    ((7, leb (picture .height * picture .width) room) ∷ measuredTests before) step
+    ∙ (λ i. lowest ((3, named) ∷ (4, goodShape (s i)) ∷ (6, long && leb (planeBytes (s i)) bytes && leb (keptBytes (d i .kept)) room) ∷ (7, leb (s i .height * s i .width) room) ∷ measuredTests (d i)))
+    in
+    record {
+      number-is = k .push .ensures .1 ∙ number;
+      values-are =
+          k .push .ensures .2
+          ∙ (λ i. whenDone (number i) (pushCadence (d i) (now (a .store)) (now (a .plane)) (s i) (k .before .before .named .ensures i)));
+    }
+
+handed-back :
+    (k : tie.After-push) → let a = k .before .before .before .before .before .before .before .before .before .before .before .before .before .args in
+    k .push .result .detector ≡ pushDetector (detectorIn (now (a .state))) (now (a .store)) (now (a .plane)) (shapeNamed (a .shape)) (parityNamed (a .parity))
+handed-back k =
+    let a = k .before .before .before .before .before .before .before .before .before .before .before .before .before .args in
+    k .push .ensures .0
+    ∙ (λ i. pushDetector (k .before .before .before .detector-in .ensures i) (now (a .store)) (now (a .plane)) (k .before .before .before .before .before .before .before .before .shape-named .ensures i) (k .before .before .named .ensures i))
+
+keep-requires : tie.Need-keep-requires
+keep-requires c κs =
+    let k = c .before .before .before .before .before .before .before in
+    let a = k .before .before .before .before .before .before .before .before .before .before .before .before .before .args in
+    let passed = k .before .before .before .before .before in
+    let judged = passed .before in (
+      state-room (leb (a .shape .layout) 3 && leb (a .parity) 1) (judged .before .good-shape .result) (length (now (a .state)))
+          (sym (judged .lowest-of .ensures) ∙ passed .if1 .left),
+      ap (λ (d : Detector). length (d .lock .ring)) (handed-back k) ∙ pushed-ring (detectorIn (now (a .state))) (now (a .store)) (now (a .plane)) (shapeNamed (a .shape)) (parityNamed (a .parity)) (found-ring (now (a .state))),
+    )
+
+number-requires : tie.Need-number-requires
+number-requires c κs = search needs
+
+enum-known-answer-2 : tie.Need-enum-known-answer-2
+enum-known-answer-2 c = search needs
+
+same-length : tie.Need-same-length
+same-length c = search needs
+
+same-length-2 : tie.Need-same-length-2
+same-length-2 c = search needs
+
+returns-2 : tie.Need-returns-2
+returns-2 c =
+    let kept = c .before .before .before in
+    let known = kept .before .before .before in
+    let k = known .before .before .before .before .before in
+    let a = k .before .before .before .before .before .before .before .before .before .before .before .before .before .args in
+    let h = answered k in (
+      said h (known .answer .given .1),
+      (
+        kept .keep .ensures ∙ ap (λ (d : Detector). keeping d (now (a .state))) (handed-back k),
+        (
+          k .push .ensures .3 ∙ (λ i. pushStore (k .before .before .before .detector-in .ensures i) (now (a .store)) (now (a .plane)) (k .before .before .before .before .before .before .before .before .shape-named .ensures i)),
+          c .number .ensures ∙ ap cadenceNumber (value h (known .answer .given .1) refl refl),
+        ),
+      ),
+    )
+
+same-length-3 : tie.Need-same-length-3
+same-length-3 c = search needs
+
+same-length-4 : tie.Need-same-length-4
+same-length-4 c = search needs
+
+returns-3 : tie.Need-returns-3
+returns-3 c =
+    let known = c .before in
+    let k = known .before .before .before .before .before in
+    let a = k .before .before .before .before .before .before .before .before .before .before .before .before .before .args in
+    let h = answered k in
+    let picture = k .before .before .before .before .before .before .before .before .shape-named .result in (
+      said h (known .answer2 .given .1),
+      (
+        stays h (known .answer2 .given .1) refl _ _,
+        (
+          k .push .ensures .3
+              ∙ ap (λ (n : ℕ). written n (over (keptFrame (now (a .plane)) picture) (now (a .store))) (now (a .store)))
+              (sym (k .push .ensures .1) ∙ ap answerNo (known .answer2 .given .1))
+              ∙ sym (stays h (known .answer2 .given .1) refl _ _)
+              ∙ stays h (known .answer2 .given .1) refl _ _,
+          stays h (known .answer2 .given .1) refl _ _,
+        ),
+      ),
+    )
+
+pub desk-detector-push-spec : {M : Type 1} → statement M
+desk-detector-push-spec =
+    tie.close
+    (tie.spec
+    shape-named-requires
+    good-shape-requires
+    lowest-of-requires
+    returns
+    detector-in-requires
+    named-requires
+    push-requires
+    enum-known-answer
+    keep-requires
+    number-requires
+    enum-known-answer-2
+    same-length
+    same-length-2
+    returns-2
+    same-length-3
+    same-length-4
+    returns-3)

@@ -1,0 +1,56 @@
+-- `filmdesk::kept_in` meets its contract. Assumes nothing.
+use Prim.Native.Nat.{ℕ, _%_}
+use mathlib.Core.Path.{ap, _∙_}
+use mathlib.Core.Bool.{not}
+use lib.Dec.{eqb}
+use borrow.Author.Needs.{needs}
+use Rattle.field.specs.Field.{parityNamed}
+use Rattle.filmdesk.specs.Kept.{detectorIn}
+use Rattle.filmdesk.proofs.kept_in.Statement.{statement}
+use Rattle.filmdesk.proofs.kept_in.Tie as tie
+
+number-at-requires : tie.Need-number-at-requires
+number-at-requires c κs = search needs
+
+number-at-requires-2 : tie.Need-number-at-requires-2
+number-at-requires-2 c κs = search needs
+
+size-in-requires : tie.Need-size-in-requires
+size-in-requires c κs = search needs
+
+number-at-requires-3 : tie.Need-number-at-requires-3
+number-at-requires-3 c κs = search needs
+
+size-in-requires-2 : tie.Need-size-in-requires-2
+size-in-requires-2 c κs = search needs
+
+number-at-requires-4 : tie.Need-number-at-requires-4
+number-at-requires-4 c κs = search needs
+
+parity-in-requires : tie.Need-parity-in-requires
+parity-in-requires c κs = search needs
+
+returns : tie.Need-returns
+unfolding detectorIn
+returns c =
+    let height = c .before .before in
+    let width = height .before .before in
+    λ i. record {
+      held = not (eqb (width .before .before .number-at .ensures i) 0);
+      width = (width .size-in .ensures ∙ ap (λ (n : ℕ). n % 65536) (width .before .number-at2 .ensures)) i;
+      height = (height .size-in2 .ensures ∙ ap (λ (n : ℕ). n % 65536) (height .before .number-at3 .ensures)) i;
+      first = (c .parity-in .ensures ∙ ap parityNamed (c .before .number-at4 .ensures)) i;
+    }
+
+pub kept-in-spec : {M : Type 1} → statement M
+kept-in-spec =
+    tie.close
+    (tie.spec
+    number-at-requires
+    number-at-requires-2
+    size-in-requires
+    number-at-requires-3
+    size-in-requires-2
+    number-at-requires-4
+    parity-in-requires
+    returns)

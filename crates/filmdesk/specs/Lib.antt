@@ -1,0 +1,4 @@
+-- The definitions that the exported functions' contracts cite, and the claims. Assumes nothing.
+pub mod Kept
+pub mod Film
+pub mod Claims

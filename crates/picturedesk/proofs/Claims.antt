@@ -1,0 +1,8 @@
+-- The claim of specs/Claims.antt. Assumes nothing.
+use Rattle.laws.specs.Refusal.{rising}
+use Rattle.laws.proofs.Claims.{lowest-says}
+use Rattle.picturedesk.specs.Claims.{PictureSays}
+
+pub picture-says : PictureSays
+unfolding rising
+picture-says quality output previous current following conversion p c f room = lowest-says _ tt

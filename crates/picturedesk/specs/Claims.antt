@@ -1,0 +1,14 @@
+-- What the exported function's contract comes to. proofs/Claims.antt proves the claim under its name in small letters. Assumes nothing.
+use Prim.Native.Nat.{ℕ}
+use Rattle.laws.specs.Refusal.{Says}
+use Rattle.colour.specs.declared.Conversion.{Conversion}
+use Rattle.picture.specs.Picture.{Frame}
+use Rattle.picturedesk.specs.declared.FrameNumbers.{FrameNumbers}
+use Rattle.picturedesk.specs.declared.OutputNumbers.{OutputNumbers}
+use Rattle.picturedesk.specs.Pictures.{pictureNamedTests}
+
+-- 0 exactly when no number applies, and otherwise the lowest that does
+abbrev pub PictureSays : Type 0
+PictureSays =
+    (quality : ℕ) (output : OutputNumbers) (previous current following : FrameNumbers) (conversion : Conversion) (p c f : Frame) (room : ℕ)
+    → Says (pictureNamedTests quality output previous current following conversion p c f room)

@@ -1,0 +1,3 @@
+-- The definitions that the exported function's contract cites, and the claim. Assumes nothing.
+pub mod Pictures
+pub mod Claims

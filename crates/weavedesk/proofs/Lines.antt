@@ -1,0 +1,77 @@
+-- How a call ends that copies out a single woven line: refused with the line's own number, refused for want of room, or done. Assumes nothing.
+use Prim.Native.Nat.{ℕ, _-_, _*_, _≤_, _<_}
+use mathlib.Core.Path.{_≡_, refl, sym, ap, _∙_}
+use mathlib.Core.Bool.{true, false}
+use mathlib.Core.List.{List, [], _∷_}
+use native.Mathlib.Omega.{arith}
+use lib.Dec.{leb, lit<}
+use lib.ListN.{length}
+use borrow.Author.Tests.{eq-eqb, le-leb, lt-leb}
+use Rattle.laws.specs.Refusal.{lowest, rising, written}
+use Rattle.laws.specs.Rows.{over}
+use Rattle.weave.specs.declared.Lines.{Lines}
+use Rattle.weave.specs.Weave.{lineBytes, lineNo, lineTests, wovenLine}
+use Rattle.weave.proofs.General.{clamped-row, kept}
+use Rattle.weave.proofs.Fields.{rows-wide}
+use Rattle.weave.proofs.Judged.{line-judged}
+use Rattle.weavedesk.specs.declared.LinesNumbers.{LinesNumbers}
+use Rattle.weavedesk.specs.Woven.{linesNamed, lineOutNo}
+use Rattle.weavedesk.proofs.General.{refused-already, decided-behind}
+
+-- a woven line that is not refused is as long as a line of the top field
+line-length :
+    (top : List ℕ) (t : Lines) (bottom : List ℕ) (b : Lines) (y : ℕ) →
+    lineNo t (length top) b (length bottom) y ≡ 0 → length (wovenLine top t bottom b y) ≡ lineBytes t
+line-length top t bottom b y done =
+    let j = line-judged top t bottom b y done in
+    ap length (sym (clamped-row (wovenLine top t bottom b) (t .height * 2 - 1) y (omega (arith, j .1)))) ∙ rows-wide top t bottom b (j .0) y
+
+module _ (top : List ℕ) (t : LinesNumbers) (bottom : List ℕ) (b : LinesNumbers) (y : ℕ) (out : List ℕ) where
+  -- the answer r, and what the output then holds
+  abbrev Ends : ℕ → List ℕ → Type 0
+  Ends r after =
+      (r ≡ lineOutNo t (length top) b (length bottom) y (length out))
+      × (after ≡ written r (over (wovenLine top (linesNamed t) bottom (linesNamed b) y) out) out)
+
+  module _ {upper lower : Lines} (u : upper ≡ linesNamed t) (l : lower ≡ linesNamed b) {no : ℕ}
+      (e : no ≡ lineNo upper (length top) lower (length bottom) y) where
+    named : no ≡ lineNo (linesNamed t) (length top) (linesNamed b) (length bottom) y
+    named = e ∙ (λ i. lineNo (u i) (length top) (l i) (length bottom) y)
+
+    pub line-refused : (no ≡ 0 → ⊥) → Ends no out
+    line-refused z = (
+      named ∙ refused-already (lineTests (linesNamed t) (length top) (linesNamed b) (length bottom) y) _ (λ h. z (named ∙ h)),
+      kept (over (wovenLine top (linesNamed t) bottom (linesNamed b) y) out) out z,
+    )
+
+    module _ (z : no ≡ 0) {line : List ℕ}
+        (w : line ≡ written (lineNo upper (length top) lower (length bottom) y) (wovenLine top upper bottom lower y) []) where
+      done : lineNo (linesNamed t) (length top) (linesNamed b) (length bottom) y ≡ 0
+      done = sym named ∙ z
+
+      the-line : line ≡ wovenLine top (linesNamed t) bottom (linesNamed b) y
+      the-line =
+          w ∙ (λ i. written (lineNo (u i) (length top) (l i) (length bottom) y) (wovenLine top (u i) bottom (l i) y) [])
+          ∙ simp (eq-eqb _ 0 done)
+
+      long : length line ≡ lineBytes (linesNamed t)
+      long = ap length the-line ∙ line-length top (linesNamed t) bottom (linesNamed b) y done
+
+      decided :
+          lowest ((7, leb (lineBytes (linesNamed t)) (length out)) ∷ []) ≡ lineOutNo t (length top) b (length bottom) y (length out)
+      unfolding rising
+      decided = decided-behind 3 (lineTests (linesNamed t) (length top) (linesNamed b) (length bottom) y) _ (lit< tt) tt done
+
+      pub line-too-long : length out < length line → Ends 7 out
+      unfolding lowest
+      line-too-long h =
+          let short : leb (lineBytes (linesNamed t)) (length out) ≡ false = lt-leb (lineBytes (linesNamed t)) (length out) (omega (arith, long, h)) in
+          let seven : 7 ≡ lowest ((7, leb (lineBytes (linesNamed t)) (length out)) ∷ []) = simp short in
+          (seven ∙ decided, refl)
+
+      pub line-copied : {after : List ℕ} → length line ≤ length out → after ≡ over line out → Ends 0 after
+      unfolding lowest
+      line-copied h p =
+          let enough : leb (lineBytes (linesNamed t)) (length out) ≡ true = le-leb (lineBytes (linesNamed t)) (length out) (omega (arith, long, h)) in
+          let none : 0 ≡ lowest ((7, leb (lineBytes (linesNamed t)) (length out)) ∷ []) = simp enough in
+          (none ∙ decided, p ∙ ap (λ (bytes : List ℕ). over bytes out) the-line)

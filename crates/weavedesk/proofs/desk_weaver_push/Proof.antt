@@ -1,0 +1,194 @@
+-- `weavedesk::desk_weaver_push` meets its contract: codes, shapes and the state's length are tested here, and the rest is the weaver's own answer.
+-- Assumes nothing.
+use mathlib.Core.Path.{_≡_, sym, ap, _∙_}
+use mathlib.Core.Bool.{_&&_}
+use lib.Dec.{leb}
+use lib.ListN.{length}
+use denote.Ref.{now}
+use mir.Syntax.{w64}
+use mir.Val.{SFits}
+use mir.ValLaws.{toZ-ofZ}
+use borrow.Author.Needs.{needs}
+use Rattle.field.specs.Field.{parityNamed}
+use Rattle.weave.specs.Weave.{goodField, chromaFits}
+use Rattle.weavedesk.specs.Woven.{fieldNamed}
+use Rattle.weavedesk.specs.Waiting.{weaverIn, timeNamed}
+use Rattle.weavedesk.proofs.Push.{firstStep, state-room, Call, Places, Said, refused-first, renamed, refused-then, taken}
+use Rattle.weavedesk.proofs.desk_weaver_push.Statement.{statement}
+use Rattle.weavedesk.proofs.desk_weaver_push.Tie as tie
+
+-- the call, and the places as they are lent
+abbrev given : tie.Start → Call
+given c = let a = c .args in
+    record { parity = a .parity; timed = a .timed; time = a .time; shape = a .shape; luma = now (a .luma); cb = now (a .cb); cr = now (a .cr) }
+
+abbrev lent : tie.Start → Places
+lent c = let a = c .args in
+    record {
+      state = now (a .state);
+      store = now (a .store);
+      out-luma = now (a .out-luma);
+      out-cb = now (a .out-cb);
+      out-cr = now (a .out-cr);
+      picture = now (a .picture);
+      earlier-timed = now (a .earlier-timed);
+      earlier-time = now (a .earlier-time);
+    }
+
+-- the first number, by the names of the contract
+first-number :
+    (c : tie.After-lowest-of) → let a = c .before .before .before .before .before .before .before .before .before .before .before .before .args in
+    c .lowest-of .result
+    ≡ firstStep (leb (a .parity) 1 && leb (a .timed) 1) (goodField (fieldNamed (a .shape))) (chromaFits (fieldNamed (a .shape))) (leb 56 (length (now (a .state))))
+first-number c =
+    let a = c .before .before .before .before .before .before .before .before .before .before .before .before .args in
+    let shape = c .before .before .before .field-named .ensures in
+    let good = c .before .before .good-field .ensures ∙ ap goodField shape in
+    let halved = c .before .chroma-fits .ensures ∙ ap chromaFits shape in
+    c .lowest-of .ensures ∙ (λ i. firstStep (leb (a .parity) 1 && leb (a .timed) 1) (good i) (halved i) (leb 56 (length (now (a .state)))))
+
+field-named-requires : tie.Need-field-named-requires
+field-named-requires c κs = search needs
+
+good-field-requires : tie.Need-good-field-requires
+good-field-requires c κs = search needs
+
+chroma-fits-requires : tie.Need-chroma-fits-requires
+chroma-fits-requires c κs = search needs
+
+lowest-of-requires : tie.Need-lowest-of-requires
+lowest-of-requires c κs = search needs
+
+returns : tie.Need-returns
+returns c =
+    let start = c .before .before .before .before .before .before .before .before .before .before .before .before .before in
+    refused-first (given start) (lent start) (first-number (c .before)) (c .if1 .taken)
+
+weaver-in-requires : tie.Need-weaver-in-requires
+weaver-in-requires c κs = search needs
+
+named-requires : tie.Need-named-requires
+named-requires c κs = search needs
+
+time-named-requires : tie.Need-time-named-requires
+time-named-requires c κs = search needs
+
+push-requires : tie.Need-push-requires
+push-requires c κs = search needs
+
+number-in-requires : tie.Need-number-in-requires
+number-in-requires c κs = search needs
+
+same-length : tie.Need-same-length
+same-length c = search needs
+
+same-length-2 : tie.Need-same-length-2
+same-length-2 c = search needs
+
+same-length-3 : tie.Need-same-length-3
+same-length-3 c = search needs
+
+same-length-4 : tie.Need-same-length-4
+same-length-4 c = search needs
+
+same-length-5 : tie.Need-same-length-5
+same-length-5 c = search needs
+
+-- what the weaver says, by the names of the contract
+answered :
+    (k : tie.After-push) → let start = k .before .before .before .before .before .before .before .before .before .before .before .before .before .before .before .before .before .before .before .before .before .before in
+    Said (given start) (lent start) (weaverIn (now (start .args .state))) (fieldNamed (start .args .shape)) (parityNamed (start .args .parity)) (timeNamed (start .args .timed) (start .args .time)) (k .push .result .answer) (k .push .result .weaver)
+    (k .push .last .1 .1 .1 .1 .1 .1 .1 .0) (k .push .last .1 .1 .1 .1 .1 .1 .1 .1 .0) (k .push .last .1 .1 .1 .1 .1 .1 .1 .1 .1 .0) (k .push .last .1 .1 .1 .1 .1 .1 .1 .1 .1 .1 .0)
+answered k =
+    let start = k .before .before .before .before .before .before .before .before .before .before .before .before .before .before .before .before .before .before .before .before .before .before in
+    renamed (given start) (lent start) (k .push .result .answer) (k .push .result .weaver) _ _ _ _ (k .before .before .before .before .before .before .before .weaver-in .ensures) (k .before .before .before .before .before .before .before .before .before .before .before .before .before .field-named .ensures)
+    (k .before .before .before .before .before .before .named .ensures) (k .before .before .before .before .before .time-named .ensures ∙ ap (timeNamed (start .args .timed)) (toZ-ofZ w64 (start .args .time) (start .fits .time)))
+    (k .push .ensures)
+
+returns-2 : tie.Need-returns-2
+returns-2 c =
+    let k = c .before .before .before .before .before .before .before .before .before .before .before in
+    let judged = k .before .before .before .before .before .before .before .before .before .before in
+    let start = judged .before .before .before .before .before .before .before .before .before .before .before .before in
+    refused-then (given start) (lent start) (sym (first-number judged) ∙ k .before .before .before .before .before .before .before .before .before .if1 .left) (k .push .result .answer) (k .push .result .weaver) _ _ _ _
+    (answered k) (c .before .number-in .ensures) (c .if2 .taken)
+
+keep-requires : tie.Need-keep-requires
+keep-requires c κs =
+    let k = c .before .before .before .before .before .before .before .before .before .before .before .before in
+    let judged = k .before .before .before .before .before .before .before .before .before .before in
+    let a = judged .before .before .before .before .before .before .before .before .before .before .before .before .args in
+    state-room (leb (a .parity) 1 && leb (a .timed) 1) (judged .before .before .good-field .result) (judged .before .chroma-fits .result) (length (now (a .state)))
+    (sym (judged .lowest-of .ensures) ∙ k .before .before .before .before .before .before .before .before .before .if1 .left)
+
+earlier-in-requires : tie.Need-earlier-in-requires
+earlier-in-requires c κs = search needs
+
+picture-in-requires : tie.Need-picture-in-requires
+picture-in-requires c κs = search needs
+
+timed-number-requires : tie.Need-timed-number-requires
+timed-number-requires c κs = search needs
+
+time-number-requires : tie.Need-time-number-requires
+time-number-requires c κs = search needs
+
+same-length-6 : tie.Need-same-length-6
+same-length-6 c = search needs
+
+same-length-7 : tie.Need-same-length-7
+same-length-7 c = search needs
+
+same-length-8 : tie.Need-same-length-8
+same-length-8 c = search needs
+
+same-length-9 : tie.Need-same-length-9
+same-length-9 c = search needs
+
+same-length-10 : tie.Need-same-length-10
+same-length-10 c = search needs
+
+returns-3 : tie.Need-returns-3
+returns-3 c =
+    let fits : SFits w64 (c .time-number .result) = search needs in
+    let kept = c .before .before .before .before .before .before in
+    let tested = kept .before .before in
+    let k = c .before .before .before .before .before .before .before .before .before .before .before .before .before .before .before .before .before .before .before in
+    let judged = k .before .before .before .before .before .before .before .before .before .before in
+    let start = judged .before .before .before .before .before .before .before .before .before .before .before .before in
+    taken (given start) (lent start) (sym (first-number judged) ∙ k .before .before .before .before .before .before .before .before .before .if1 .left) (k .push .result .answer) (k .push .result .weaver) _ _ _ _ (answered k)
+    (tested .before .number-in .ensures) (tested .if2 .left) _ _ _ _ (c .before .before .before .earlier-in .result) (kept .keep .ensures)
+    (c .before .before .before .earlier-in .ensures) (c .before .before .picture-in .ensures) (c .before .timed-number .ensures)
+    (toZ-ofZ w64 (c .time-number .result) fits ∙ c .time-number .ensures)
+
+pub desk-weaver-push-spec : {M : Type 1} → statement M
+desk-weaver-push-spec =
+    tie.close
+    (tie.spec
+    field-named-requires
+    good-field-requires
+    chroma-fits-requires
+    lowest-of-requires
+    returns
+    weaver-in-requires
+    named-requires
+    time-named-requires
+    push-requires
+    number-in-requires
+    same-length
+    same-length-2
+    same-length-3
+    same-length-4
+    same-length-5
+    returns-2
+    keep-requires
+    earlier-in-requires
+    picture-in-requires
+    timed-number-requires
+    time-number-requires
+    same-length-6
+    same-length-7
+    same-length-8
+    same-length-9
+    same-length-10
+    returns-3)

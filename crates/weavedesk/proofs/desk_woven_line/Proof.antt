@@ -1,0 +1,64 @@
+-- `weavedesk::desk_woven_line` meets its contract. Assumes nothing.
+use borrow.Author.Needs.{needs}
+use denote.Ref.{now}
+use Rattle.weavedesk.proofs.Lines.{line-refused, line-too-long, line-copied}
+use Rattle.weavedesk.proofs.desk_woven_line.Statement.{statement}
+use Rattle.weavedesk.proofs.desk_woven_line.Tie as tie
+
+lines-named-requires : tie.Need-lines-named-requires
+lines-named-requires c κs = search needs
+
+lines-named-requires-2 : tie.Need-lines-named-requires-2
+lines-named-requires-2 c κs = search needs
+
+line-no-requires : tie.Need-line-no-requires
+line-no-requires c κs = search needs
+
+returns : tie.Need-returns
+returns c =
+    let number = c .before in
+    let a = number .before .before .before .before .before .before .args in
+    line-refused (now (a .top)) (a .top-lines) (now (a .bottom)) (a .bottom-lines) (a .y) (now (a .out)) (number .before .before .lines-named .ensures)
+    (number .before .lines-named2 .ensures) (number .line-no .ensures) (c .if1 .taken)
+
+woven-line-requires : tie.Need-woven-line-requires
+woven-line-requires c κs = search needs
+
+returns-2 : tie.Need-returns-2
+returns-2 c =
+    let test = c .before .before in
+    let number = test .before in
+    let a = number .before .before .before .before .before .before .args in
+    line-too-long (now (a .top)) (a .top-lines) (now (a .bottom)) (a .bottom-lines) (a .y) (now (a .out)) (number .before .before .lines-named .ensures)
+    (number .before .lines-named2 .ensures) (number .line-no .ensures) (test .if1 .left) (c .before .woven-line .ensures) (c .if2 .taken)
+
+copy-requires : tie.Need-copy-requires
+copy-requires c κs = search needs
+
+same-length : tie.Need-same-length
+same-length c = search needs
+
+returns-3 : tie.Need-returns-3
+returns-3 c =
+    let copied = c .before .before in
+    let room = copied .before .before in
+    let test = room .before .before in
+    let number = test .before in
+    let a = number .before .before .before .before .before .before .args in
+    line-copied (now (a .top)) (a .top-lines) (now (a .bottom)) (a .bottom-lines) (a .y) (now (a .out)) (number .before .before .lines-named .ensures)
+    (number .before .lines-named2 .ensures) (number .line-no .ensures) (test .if1 .left) (room .before .woven-line .ensures) (room .if2 .left)
+    (copied .copy .ensures)
+
+pub desk-woven-line-spec : {M : Type 1} → statement M
+desk-woven-line-spec =
+    tie.close
+    (tie.spec
+    lines-named-requires
+    lines-named-requires-2
+    line-no-requires
+    returns
+    woven-line-requires
+    returns-2
+    copy-requires
+    same-length
+    returns-3)

@@ -1,0 +1,73 @@
+-- Weaving and readback by number (document 01, "Fields and readback", "What the desk gets back"). A number too large for its place counts as the
+-- largest there, which is out of bounds too. Assumes nothing.
+use Prim.Native.Nat.{ℕ, min}
+use mathlib.Core.Bool.{Bool, true, false, not}
+use mathlib.Core.List.{List, [], _∷_, _++_}
+use lib.Dec.{leb, eqb}
+use Rattle.laws.specs.Refusal.{lowest}
+use Rattle.weave.specs.declared.Lines.{Lines}
+use Rattle.weave.specs.declared.Field.{Field}
+use Rattle.weave.specs.declared.Format.{Format}
+use Rattle.weave.specs.Weave.{lineBytes, lineTests}
+use Rattle.readback.specs.declared.Readback.{Readback}
+use Rattle.weavedesk.specs.declared.LinesNumbers.{LinesNumbers}
+use Rattle.weavedesk.specs.declared.FieldNumbers.{FieldNumbers}
+use Rattle.weavedesk.specs.declared.FormatNumbers.{FormatNumbers}
+use Rattle.weavedesk.specs.declared.ReadbackNumbers.{ReadbackNumbers}
+
+abbrev pub linesNamed : LinesNumbers → Lines
+linesNamed n = record { width = min (n .width) 65535; height = min (n .height) 65535; depth = min (n .depth) 255; stride = n .stride }
+
+abbrev pub fieldNamed : FieldNumbers → Field
+fieldNamed n = record { luma = linesNamed (n .luma); cb = linesNamed (n .cb); cr = linesNamed (n .cr) }
+
+-- The line's bytes go to an output: 7 also where it is too short for them. The four numbers before it are those of the line.
+abbrev pub lineOutTests : LinesNumbers → ℕ → LinesNumbers → ℕ → ℕ → ℕ → List (ℕ × Bool)
+lineOutTests t top-bytes b bottom-bytes y room =
+    lineTests (linesNamed t) top-bytes (linesNamed b) bottom-bytes y ++ ((7, leb (lineBytes (linesNamed t)) room) ∷ [])
+
+abbrev pub lineOutNo : LinesNumbers → ℕ → LinesNumbers → ℕ → ℕ → ℕ → ℕ
+lineOutNo t top-bytes b bottom-bytes y room = lowest (lineOutTests t top-bytes b bottom-bytes y room)
+
+-- a flag is 0 or any other number
+abbrev pub flagNamed : ℕ → Bool
+flagNamed n = not (eqb n 0)
+
+abbrev pub flagNumber : Bool → ℕ
+flagNumber true = 1
+flagNumber false = 0
+
+abbrev pub formatNamed : FormatNumbers → Format
+formatNamed n = record {
+  width = n .width;
+  height = n .height;
+  depth = min (n .depth) 255;
+  «rate_numerator» = n .«rate_numerator»;
+  «rate_denominator» = n .«rate_denominator»;
+  «field_pictures» = flagNamed (n .«field_pictures»);
+  progressive = flagNamed (n .progressive);
+  woven = flagNamed (n .woven);
+}
+
+abbrev pub formatNumbers : Format → FormatNumbers
+formatNumbers f = record {
+  width = f .width;
+  height = f .height;
+  depth = f .depth;
+  «rate_numerator» = f .«rate_numerator»;
+  «rate_denominator» = f .«rate_denominator»;
+  «field_pictures» = flagNumber (f .«field_pictures»);
+  progressive = flagNumber (f .progressive);
+  woven = flagNumber (f .woven);
+}
+
+abbrev pub readbackNamed : ReadbackNumbers → Readback
+readbackNamed n = record {
+  planes = min (n .planes) 255;
+  width = min (n .width) 65535;
+  height = min (n .height) 65535;
+  depth = min (n .depth) 255;
+  «luma_pitch» = n .«luma_pitch»;
+  «second_pitch» = n .«second_pitch»;
+  «third_pitch» = n .«third_pitch»;
+}

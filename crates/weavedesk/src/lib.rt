@@ -1,0 +1,568 @@
+// What the capture desk's Rust host calls of weaving and readback, beside crate `desk` and in its
+// manner: numbers and byte slices, the answer a number of document 01, "What the desk gets back", a
+// value to a lent place, which a refusal leaves as it was. Numbers are wider than a shape's own, so
+// that none can wrap into the bounds. Between calls the host keeps the weaver in 56 bytes that it
+// lends. Assumes nothing.
+use desk::planes;
+use field::Parity;
+use plane::refusal;
+use weaver::Paired;
+use weaver::Time;
+use weaver::Weaver;
+ghost use mathlib.Core.Path.{_≡_};
+ghost use mathlib.Core.List.{[], _∷_};
+ghost use Prim.Native.Nat.{_%_, _≤_};
+ghost use lib.ListN.{length};
+ghost use Rattle.laws.specs.Refusal.{written};
+ghost use Rattle.laws.specs.Rows.{over};
+ghost use Rattle.field.specs.Field.{parityNamed};
+ghost use Rattle.weave.specs.Weave.{givenOf, wovenPlane, wovenLine, weaveNo, lineNo, wovenFormat};
+ghost use Rattle.readback.specs.Readback.{lumaShape, cbShape, crShape, crBytes, readbackNo, copiedOf};
+ghost use Rattle.weaver.specs.Weaver.{pairedNo, emptyWeaver, keptField, pictureTimes, pushWeaver, pushStore, pushOut};
+ghost use Rattle.weavedesk.specs.Woven.{linesNamed, fieldNamed, lineOutNo, formatNamed, formatNumbers, readbackNamed, flagNamed, flagNumber};
+ghost use Rattle.weavedesk.specs.Waiting.{keeping, weaverIn, weaverNumbers, newNo, clearNo, timeNamed, timeOf, wholeKind, wholeSize, timeKind, timeSize, pushNamedNo, pictureNumber, timedNumber, timeNumber};
+ghost use Rattle.weavedesk.specs.Inner.{timesIn};
+
+// The lines of a plane of a field: sizes in samples, the stride in bytes.
+#[repr(C)]
+pub struct LinesNumbers {
+    pub width: u32,
+    pub height: u32,
+    pub depth: u32,
+    pub stride: u32,
+}
+
+#[repr(C)]
+pub struct FieldNumbers {
+    pub luma: LinesNumbers,
+    pub cb: LinesNumbers,
+    pub cr: LinesNumbers,
+}
+
+// What is said of a stream's pictures. The last three are 0 or 1.
+#[repr(C)]
+pub struct FormatNumbers {
+    pub width: u32,
+    pub height: u32,
+    pub depth: u32,
+    pub rate_numerator: u32,
+    pub rate_denominator: u32,
+    pub field_pictures: u32,
+    pub progressive: u32,
+    pub woven: u32,
+}
+
+// What was read back: how many planes, the frame's size and depth, and each plane's bytes from one row
+// to the next.
+#[repr(C)]
+pub struct ReadbackNumbers {
+    pub planes: u32,
+    pub width: u32,
+    pub height: u32,
+    pub depth: u32,
+    pub luma_pitch: u32,
+    pub second_pitch: u32,
+    pub third_pitch: u32,
+}
+
+fn lines_named(lines: LinesNumbers) -> weave::Lines
+    ensures { λ r. ⌜ r ≡ linesNamed lines ⌝ }
+{
+    let width = planes::at_most_65535(lines.width);
+    let height = planes::at_most_65535(lines.height);
+    let depth = planes::at_most_255(lines.depth);
+    weave::Lines {
+        width: width,
+        height: height,
+        depth: depth,
+        stride: lines.stride,
+    }
+}
+
+fn field_named(n: FieldNumbers) -> weave::Field
+    ensures { λ r. ⌜ r ≡ fieldNamed n ⌝ }
+{
+    let luma = lines_named(n.luma);
+    let cb = lines_named(n.cb);
+    let cr = lines_named(n.cr);
+    weave::Field {
+        luma: luma,
+        cb: cb,
+        cr: cr,
+    }
+}
+
+fn flag_named(n: u32) -> bool
+    ensures { λ r. ⌜ r ≡ flagNamed n ⌝ }
+{
+    n != 0
+}
+
+fn flag_number(flag: bool) -> u32
+    ensures { λ r. ⌜ r ≡ flagNumber flag ⌝ }
+{
+    if flag { 1 } else { 0 }
+}
+
+fn format_named(n: FormatNumbers) -> weave::Format
+    ensures { λ r. ⌜ r ≡ formatNamed n ⌝ }
+{
+    let depth = planes::at_most_255(n.depth);
+    let fields = flag_named(n.field_pictures);
+    let progressive = flag_named(n.progressive);
+    let woven = flag_named(n.woven);
+    weave::Format {
+        width: n.width,
+        height: n.height,
+        depth: depth,
+        rate_numerator: n.rate_numerator,
+        rate_denominator: n.rate_denominator,
+        field_pictures: fields,
+        progressive: progressive,
+        woven: woven,
+    }
+}
+
+fn format_numbers(f: weave::Format) -> FormatNumbers
+    ensures { λ r. ⌜ r ≡ formatNumbers f ⌝ }
+{
+    let fields = flag_number(f.field_pictures);
+    let progressive = flag_number(f.progressive);
+    let woven = flag_number(f.woven);
+    FormatNumbers {
+        width: f.width,
+        height: f.height,
+        depth: f.depth as u32,
+        rate_numerator: f.rate_numerator,
+        rate_denominator: f.rate_denominator,
+        field_pictures: fields,
+        progressive: progressive,
+        woven: woven,
+    }
+}
+
+fn readback_named(n: ReadbackNumbers) -> readback::Readback
+    ensures { λ r. ⌜ r ≡ readbackNamed n ⌝ }
+{
+    let planes = planes::at_most_255(n.planes);
+    let width = planes::at_most_65535(n.width);
+    let height = planes::at_most_65535(n.height);
+    let depth = planes::at_most_255(n.depth);
+    readback::Readback {
+        planes: planes,
+        width: width,
+        height: height,
+        depth: depth,
+        luma_pitch: n.luma_pitch,
+        second_pitch: n.second_pitch,
+        third_pitch: n.third_pitch,
+    }
+}
+
+// ---- a weaver in the state's bytes
+
+const STATE_BYTES: usize = 56;
+
+// 0 is top, and every other number bottom, so that all bytes are some weaver.
+fn parity_in(number: u64) -> Parity
+    ensures { λ r. ⌜ r ≡ parityNamed number ⌝ }
+{
+    if number == 0 {
+        Parity::Top
+    } else {
+        Parity::Bottom
+    }
+}
+
+fn byte_in(number: u64) -> u8
+    ensures { λ r. ⌜ r ≡ number % 256 ⌝ }
+{
+    (number % 256) as u8
+}
+
+fn size_in(number: u64) -> u16
+    ensures { λ r. ⌜ r ≡ number % 65536 ⌝ }
+{
+    (number % 65536) as u16
+}
+
+fn time_in(kind: u64, size: u64) -> Time
+    ensures { λ r. ⌜ r ≡ timeOf kind size ⌝ }
+{
+    if kind == 0 {
+        return Time::Absent;
+    }
+    let n = (size % 9223372036854775808) as i64;
+    if kind == 1 {
+        Time::At(n)
+    } else {
+        Time::At(-n - 1)
+    }
+}
+
+fn weaver_in(state: &[u8]) -> Weaver
+    ensures { λ r. ⌜ r ≡ weaverIn (now (state .entry)) ⌝ }
+{
+    let held = packed::number_at(state, 0) != 0;
+    let width = size_in(packed::number_at(state, 1));
+    let height = size_in(packed::number_at(state, 2));
+    let depth = byte_in(packed::number_at(state, 3));
+    let parity = parity_in(packed::number_at(state, 4));
+    let time = time_in(packed::number_at(state, 5), packed::number_at(state, 6));
+    Weaver {
+        held: held,
+        width: width,
+        height: height,
+        depth: depth,
+        parity: parity,
+        time: time,
+    }
+}
+
+fn whole_kind(at: i64) -> u64
+    ensures { λ r. ⌜ r ≡ wholeKind at ⌝ }
+{
+    if at < 0 { 2 } else { 1 }
+}
+
+fn whole_size(at: i64) -> u64
+    ensures { λ r. ⌜ r ≡ wholeSize at ⌝ }
+{
+    if at < 0 {
+        (-(at + 1)) as u64
+    } else {
+        at as u64
+    }
+}
+
+fn time_kind(time: Time) -> u64
+    ensures { λ r. ⌜ r ≡ timeKind time ⌝ }
+{
+    match time {
+        Time::Absent => 0,
+        Time::At(at) => whole_kind(at),
+    }
+}
+
+fn time_size(time: Time) -> u64
+    ensures { λ r. ⌜ r ≡ timeSize time ⌝ }
+{
+    match time {
+        Time::Absent => 0,
+        Time::At(at) => whole_size(at),
+    }
+}
+
+fn numbers_of(weaver: Weaver) -> [u64; 7]
+    ensures { λ r. ⌜ r ≡ weaverNumbers weaver ⌝ }
+{
+    let parity = weaver.parity;
+    let time = weaver.time;
+    let held = flag_number(weaver.held);
+    let row = parity.first_row();
+    let kind = time_kind(time);
+    let size = time_size(time);
+    [
+        held as u64,
+        weaver.width as u64,
+        weaver.height as u64,
+        weaver.depth as u64,
+        row as u64,
+        kind,
+        size,
+    ]
+}
+
+// Writes a weaver to a state that is long enough.
+fn keep(state: &mut [u8], weaver: Weaver)
+    requires { ⌜ 56 ≤ length (now state) ⌝ }
+    ensures { λ _. ⌜ now (state .exit) ≡ keeping weaver (now (state .entry)) ⌝ }
+{
+    let numbers = numbers_of(weaver);
+    packed::write_numbers(state, &numbers);
+}
+
+// ---- what a push gives
+
+fn time_named(timed: u8, at: i64) -> Time
+    ensures { λ r. ⌜ r ≡ timeNamed timed at ⌝ }
+{
+    if timed == 0 {
+        Time::Absent
+    } else {
+        Time::At(at)
+    }
+}
+
+fn number_in(answer: Paired) -> u8
+    ensures { λ r. ⌜ r ≡ pairedNo answer ⌝ }
+{
+    match answer {
+        Paired::Waits => 0,
+        Paired::Picture(_) => 0,
+        Paired::Refused(no) => no,
+    }
+}
+
+fn picture_in(answer: Paired) -> u8
+    ensures { λ r. ⌜ r ≡ pictureNumber (timesIn answer) ⌝ }
+{
+    match answer {
+        Paired::Waits => 0,
+        Paired::Picture(_) => 1,
+        Paired::Refused(_) => 0,
+    }
+}
+
+fn earlier_in(answer: Paired) -> Time
+    ensures { λ r. ⌜ (timedNumber (r ∷ []) ≡ timedNumber (timesIn answer)) × (timeNumber (r ∷ []) ≡ timeNumber (timesIn answer)) ⌝ }
+{
+    match answer {
+        Paired::Waits => Time::Absent,
+        Paired::Picture(at) => at,
+        Paired::Refused(_) => Time::Absent,
+    }
+}
+
+fn timed_number(earlier: Time) -> u8
+    ensures { λ r. ⌜ r ≡ timedNumber (earlier ∷ []) ⌝ }
+{
+    match earlier {
+        Time::Absent => 0,
+        Time::At(_) => 1,
+    }
+}
+
+fn time_number(earlier: Time) -> i64
+    ensures { λ r. ⌜ r ≡ timeNumber (earlier ∷ []) ⌝ }
+{
+    match earlier {
+        Time::Absent => 0,
+        Time::At(at) => at,
+    }
+}
+
+// ---- the calls
+
+// Two fields' lines in turn, the top field's first. Numbers 4 to 7.
+#[no_mangle]
+pub extern "C" fn desk_weave(
+    top: FieldNumbers,
+    top_luma: &[u8],
+    top_cb: &[u8],
+    top_cr: &[u8],
+    bottom: FieldNumbers,
+    bottom_luma: &[u8],
+    bottom_cb: &[u8],
+    bottom_cr: &[u8],
+    out_luma: &mut [u8],
+    out_cb: &mut [u8],
+    out_cr: &mut [u8],
+) -> u8
+    ensures { λ r. ⌜ r ≡ weaveNo (givenOf (fieldNamed top) (now («top_luma» .entry)) (now («top_cb» .entry)) (now («top_cr» .entry))) (givenOf (fieldNamed bottom) (now («bottom_luma» .entry)) (now («bottom_cb» .entry)) (now («bottom_cr» .entry))) (length (now («out_luma» .entry))) (length (now («out_cb» .entry))) (length (now («out_cr» .entry))) ⌝ }
+    ensures { λ r. ⌜ now («out_luma» .exit) ≡ written r (over (wovenPlane (now («top_luma» .entry)) (linesNamed (top .luma)) (now («bottom_luma» .entry)) (linesNamed (bottom .luma))) (now («out_luma» .entry))) (now («out_luma» .entry)) ⌝ }
+    ensures { λ r. ⌜ now («out_cb» .exit) ≡ written r (over (wovenPlane (now («top_cb» .entry)) (linesNamed (top .cb)) (now («bottom_cb» .entry)) (linesNamed (bottom .cb))) (now («out_cb» .entry))) (now («out_cb» .entry)) ⌝ }
+    ensures { λ r. ⌜ now («out_cr» .exit) ≡ written r (over (wovenPlane (now («top_cr» .entry)) (linesNamed (top .cr)) (now («bottom_cr» .entry)) (linesNamed (bottom .cr))) (now («out_cr» .entry))) (now («out_cr» .entry)) ⌝ }
+{
+    weave::weave(
+        out_luma,
+        out_cb,
+        out_cr,
+        field_named(top),
+        top_luma,
+        top_cb,
+        top_cr,
+        field_named(bottom),
+        bottom_luma,
+        bottom_cb,
+        bottom_cr,
+    )
+}
+
+// The number of a single woven line, from the lengths of the two planes: 3 to 6.
+#[no_mangle]
+pub extern "C" fn desk_line_number(
+    top: LinesNumbers,
+    top_bytes: u64,
+    bottom: LinesNumbers,
+    bottom_bytes: u64,
+    y: u32,
+) -> u8
+    ensures { λ r. ⌜ r ≡ lineNo (linesNamed top) «top_bytes» (linesNamed bottom) «bottom_bytes» y ⌝ }
+{
+    weave::line_no(
+        lines_named(top),
+        top_bytes as usize,
+        lines_named(bottom),
+        bottom_bytes as usize,
+        y,
+    )
+}
+
+// Copies a line to the front of an output that has room for it.
+fn copy(out: &mut [u8], line: &[u8])
+    requires { ⌜ length (now line) ≤ length (now out) ⌝ }
+    ensures { λ _. ⌜ now (out .exit) ≡ over (now (line .entry)) (now (out .entry)) ⌝ }
+{
+    let mut i = 0;
+    while i < line.len() {
+        out[i] = line[i];
+        i += 1;
+    }
+}
+
+// The bytes of a single woven line, copied out. Numbers 3 to 7.
+#[no_mangle]
+pub extern "C" fn desk_woven_line<'a>(
+    top: &'a [u8],
+    top_lines: LinesNumbers,
+    bottom: &'a [u8],
+    bottom_lines: LinesNumbers,
+    y: u32,
+    out: &mut [u8],
+) -> u8
+    ensures { λ r. ⌜ r ≡ lineOutNo «top_lines» (length (now (top .entry))) «bottom_lines» (length (now (bottom .entry))) y (length (now (out .entry))) ⌝ }
+    ensures { λ r. ⌜ now (out .exit) ≡ written r (over (wovenLine (now (top .entry)) (linesNamed «top_lines») (now (bottom .entry)) (linesNamed «bottom_lines») y) (now (out .entry))) (now (out .entry)) ⌝ }
+{
+    let upper = lines_named(top_lines);
+    let lower = lines_named(bottom_lines);
+    let no = weave::line_no(upper, top.len(), lower, bottom.len(), y);
+    if no != 0 {
+        return no;
+    }
+    let line = weave::woven_line(top, upper, bottom, lower, y);
+    if out.len() < line.len() {
+        return refusal::SHORT_OUTPUT;
+    }
+    copy(out, line);
+    0
+}
+
+// The format of the frames woven from fields of a format. A depth above 255 counts as 255, a flag other
+// than 0 as 1.
+#[no_mangle]
+pub extern "C" fn desk_woven(field: FormatNumbers) -> FormatNumbers
+    ensures { λ r. ⌜ r ≡ formatNumbers (wovenFormat (formatNamed field)) ⌝ }
+{
+    format_numbers(weave::woven(format_named(field)))
+}
+
+// A frame read back, without padding, in three planes. Numbers 1, 2, 4, 6 and 7.
+#[no_mangle]
+pub extern "C" fn desk_readback(
+    about: ReadbackNumbers,
+    luma: &[u8],
+    second: &[u8],
+    third: &[u8],
+    out_luma: &mut [u8],
+    out_cb: &mut [u8],
+    out_cr: &mut [u8],
+) -> u8
+    ensures { λ r. ⌜ r ≡ readbackNo (readbackNamed about) (length (now (luma .entry))) (length (now (second .entry))) (length (now (third .entry))) (length (now («out_luma» .entry))) (length (now («out_cb» .entry))) (length (now («out_cr» .entry))) ⌝ }
+    ensures { λ r. ⌜ now («out_luma» .exit) ≡ written r (over (copiedOf (now (luma .entry)) (lumaShape (readbackNamed about))) (now («out_luma» .entry))) (now («out_luma» .entry)) ⌝ }
+    ensures { λ r. ⌜ now («out_cb» .exit) ≡ written r (over (copiedOf (now (second .entry)) (cbShape (readbackNamed about))) (now («out_cb» .entry))) (now («out_cb» .entry)) ⌝ }
+    ensures { λ r. ⌜ now («out_cr» .exit) ≡ written r (over (copiedOf (crBytes (readbackNamed about) (now (second .entry)) (now (third .entry))) (crShape (readbackNamed about))) (now («out_cr» .entry))) (now («out_cr» .entry)) ⌝ }
+{
+    readback::frame_of_readback(
+        out_luma,
+        out_cb,
+        out_cr,
+        readback_named(about),
+        luma,
+        second,
+        third,
+    )
+}
+
+// A weaver with no field. Number 7.
+#[no_mangle]
+pub extern "C" fn desk_weaver_new(state: &mut [u8]) -> u8
+    ensures { λ r. ⌜ r ≡ newNo (length (now (state .entry))) ⌝ }
+    ensures { λ r. ⌜ now (state .exit) ≡ written r (keeping emptyWeaver (now (state .entry))) (now (state .entry)) ⌝ }
+{
+    if state.len() < STATE_BYTES {
+        return refusal::SHORT_OUTPUT;
+    }
+    keep(state, Weaver::new());
+    0
+}
+
+// Throws away the field that waits. Number 6.
+#[no_mangle]
+pub extern "C" fn desk_weaver_clear(state: &mut [u8]) -> u8
+    ensures { λ r. ⌜ r ≡ clearNo (length (now (state .entry))) ⌝ }
+    ensures { λ r. ⌜ now (state .exit) ≡ written r (keeping emptyWeaver (now (state .entry))) (now (state .entry)) ⌝ }
+{
+    if state.len() < STATE_BYTES {
+        return refusal::SHORT_INPUT;
+    }
+    let weaver = weaver_in(state);
+    keep(state, weaver.clear());
+    0
+}
+
+// Takes a field of parity 0 top or 1 bottom; where `timed` is 1 it has the time `time`. `picture` gets 1
+// where the outputs have a picture, else 0; `earlier_timed` and `earlier_time` get the earlier field's
+// time where there is a picture and it has one, else 0. Numbers 3 to 7.
+#[no_mangle]
+pub extern "C" fn desk_weaver_push(
+    state: &mut [u8],
+    parity: u8,
+    timed: u8,
+    time: i64,
+    shape: FieldNumbers,
+    luma: &[u8],
+    cb: &[u8],
+    cr: &[u8],
+    store: &mut [u8],
+    out_luma: &mut [u8],
+    out_cb: &mut [u8],
+    out_cr: &mut [u8],
+    picture: &mut u8,
+    earlier_timed: &mut u8,
+    earlier_time: &mut i64,
+) -> u8
+    ensures { λ r. ⌜ r ≡ pushNamedNo parity timed (length (now (state .entry))) (weaverIn (now (state .entry))) (givenOf (fieldNamed shape) (now (luma .entry)) (now (cb .entry)) (now (cr .entry))) (length (now (store .entry))) (length (now («out_luma» .entry))) (length (now («out_cb» .entry))) (length (now («out_cr» .entry))) ⌝ }
+    ensures { λ r. ⌜ now (state .exit) ≡ written r (keeping (pushWeaver 0 (weaverIn (now (state .entry))) (fieldNamed shape) (parityNamed parity) (timeNamed timed time)) (now (state .entry))) (now (state .entry)) ⌝ }
+    ensures { λ r. ⌜ now (store .exit) ≡ pushStore r (weaverIn (now (state .entry))) (givenOf (fieldNamed shape) (now (luma .entry)) (now (cb .entry)) (now (cr .entry))) (parityNamed parity) (now (store .entry)) ⌝ }
+    ensures { λ r. ⌜ now («out_luma» .exit) ≡ pushOut r (weaverIn (now (state .entry))) (fieldNamed shape) (parityNamed parity) (keptField (weaverIn (now (state .entry))) (now (store .entry)) .luma) (keptField (weaverIn (now (state .entry))) (now (store .entry)) .shape .luma) (now (luma .entry)) (linesNamed (shape .luma)) (now («out_luma» .entry)) ⌝ }
+    ensures { λ r. ⌜ now («out_cb» .exit) ≡ pushOut r (weaverIn (now (state .entry))) (fieldNamed shape) (parityNamed parity) (keptField (weaverIn (now (state .entry))) (now (store .entry)) .cb) (keptField (weaverIn (now (state .entry))) (now (store .entry)) .shape .cb) (now (cb .entry)) (linesNamed (shape .cb)) (now («out_cb» .entry)) ⌝ }
+    ensures { λ r. ⌜ now («out_cr» .exit) ≡ pushOut r (weaverIn (now (state .entry))) (fieldNamed shape) (parityNamed parity) (keptField (weaverIn (now (state .entry))) (now (store .entry)) .cr) (keptField (weaverIn (now (state .entry))) (now (store .entry)) .shape .cr) (now (cr .entry)) (linesNamed (shape .cr)) (now («out_cr» .entry)) ⌝ }
+    ensures { λ r. ⌜ now (picture .exit) ≡ written r (pictureNumber (pictureTimes (weaverIn (now (state .entry))) (fieldNamed shape) (parityNamed parity))) (now (picture .entry)) ⌝ }
+    ensures { λ r. ⌜ now («earlier_timed» .exit) ≡ written r (timedNumber (pictureTimes (weaverIn (now (state .entry))) (fieldNamed shape) (parityNamed parity))) (now («earlier_timed» .entry)) ⌝ }
+    ensures { λ r. ⌜ now («earlier_time» .exit) ≡ written r (timeNumber (pictureTimes (weaverIn (now (state .entry))) (fieldNamed shape) (parityNamed parity))) (now («earlier_time» .entry)) ⌝ }
+{
+    let named = (parity <= 1) & (timed <= 1);
+    let given = field_named(shape);
+    let good = weave::good_field(given);
+    let halved = weave::chroma_fits(given);
+    let refused = refusal::lowest_of(named, good, halved, STATE_BYTES <= state.len(), true, true);
+    if refused != 0 {
+        return refused;
+    }
+    let weaver = weaver_in(state);
+    let pushed = weaver.push(
+        given,
+        luma,
+        cb,
+        cr,
+        Parity::named(parity as u32),
+        time_named(timed, time),
+        store,
+        out_luma,
+        out_cb,
+        out_cr,
+    );
+    let after = pushed.weaver;
+    let answer = pushed.answer;
+    let no = number_in(answer);
+    if no != 0 {
+        return no;
+    }
+    keep(state, after);
+    let earlier = earlier_in(answer);
+    *picture = picture_in(answer);
+    *earlier_timed = timed_number(earlier);
+    *earlier_time = time_number(earlier);
+    0
+}
