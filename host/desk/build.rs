@@ -1,8 +1,11 @@
-//! Links the archive of the proved crate `desk`, which `rt staticlib desk`
-//! writes to target/staticlib at the root of the repository.
+//! Links the archives of the proved crates that export calls. For each of them
+//! `rt staticlib NAME` writes libNAME.a to target/staticlib at the root of the
+//! repository.
 
 use std::env;
 use std::path::PathBuf;
+
+const CRATES: [&str; 4] = ["desk", "picturedesk", "filmdesk", "weavedesk"];
 
 fn main() {
     let manifest = env::var("CARGO_MANIFEST_DIR").expect("cargo sets CARGO_MANIFEST_DIR");
@@ -10,24 +13,28 @@ fn main() {
     folder.pop();
     folder.pop();
     folder.push("target/staticlib");
-    let archive = folder.join("libdesk.a");
-    println!("cargo::rerun-if-changed={}", archive.display());
     println!("cargo::rerun-if-changed=build.rs");
 
     let target = env::var("TARGET").expect("cargo sets TARGET");
-    if target != "x86_64-unknown-linux-gnu" {
+    let right_target = target == "x86_64-unknown-linux-gnu";
+    if !right_target {
         println!(
-            "cargo::error=the target is {target}, but the archive holds x86-64 code for Linux; \
+            "cargo::error=the target is {target}, but the archives hold x86-64 code for Linux; \
              expected x86_64-unknown-linux-gnu, which host/cargo chooses"
         );
-    } else if !archive.is_file() {
-        println!(
-            "cargo::error={} is missing; expected the archive that `rt staticlib desk` writes, \
-             run at the root of the repository",
-            archive.display()
-        );
-    } else {
-        println!("cargo::rustc-link-search=native={}", folder.display());
-        println!("cargo::rustc-link-lib=static=desk");
+    }
+    println!("cargo::rustc-link-search=native={}", folder.display());
+    for name in CRATES {
+        let archive = folder.join(format!("lib{name}.a"));
+        println!("cargo::rerun-if-changed={}", archive.display());
+        if !archive.is_file() {
+            println!(
+                "cargo::error={} is missing; expected the archive that `rt staticlib {name}` \
+                 writes, run at the root of the repository",
+                archive.display()
+            );
+        } else if right_target {
+            println!("cargo::rustc-link-lib=static={name}");
+        }
     }
 }

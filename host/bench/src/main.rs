@@ -18,6 +18,10 @@ use oracle::mediadecoder::video::Plane;
 use oracle::video::filter::{Planes, Rows, Samples};
 use oracle::video::{Deinterlace, colour};
 
+mod films;
+mod pictures;
+mod weaves;
+
 /// Rounds of each side, in turn, so that a busy machine slows both.
 const ROUNDS: usize = 40;
 
@@ -60,6 +64,23 @@ fn contests() -> Vec<Contest> {
         whole("1920x1080, 10 b., luma, Bwdif", 3, 10, 1),
         to_rgb("100000 triples"),
         quantise("1000000 floats"),
+        pictures::picture("1920x1080, 8 bits, Weave", 0, 8, false),
+        pictures::picture("1920x1080, 10 b., bipl., Weave", 0, 10, true),
+        pictures::picture("1920x1080, 8 bits, Bob", 1, 8, false),
+        pictures::picture("1920x1080, 10 b., bipl., Bob", 1, 10, true),
+        pictures::picture("1920x1080, 8 bits, Yadif", 2, 8, false),
+        pictures::picture("1920x1080, 10 b., bipl., Yadif", 2, 10, true),
+        pictures::picture("1920x1080, 8 bits, Bwdif", 3, 8, false),
+        pictures::picture("1920x1080, 10 b., bipl., Bwdif", 3, 10, true),
+        films::push("1920x1080, 8 bits, two", 8),
+        films::push("1920x1080, 10 bits, two", 10),
+        films::measured("1000000 measured entries", 1_000_000),
+        weaves::weave("1920x1080, 8 bits", 8),
+        weaves::weave("1920x1080, 10 bits", 10),
+        weaves::readback("1920x1080, 8 bits, 3 planes", 8, 3),
+        weaves::readback("1920x1080, 8 bits, 2 planes", 8, 2),
+        weaves::readback("1920x1080, 10 bits, 3 planes", 10, 3),
+        weaves::readback("1920x1080, 10 bits, 2 planes", 10, 2),
     ]
 }
 

@@ -1,4 +1,5 @@
-//! Holds the declarations in host/desk/src to the exports in crates/desk/src.
+//! Holds the declarations in host/desk/src to the exports in crates/desk/src and
+//! in the sources of the crates beside it that export calls too.
 //!
 //! The linker joins the two by name alone: a misplaced parameter or a wrong
 //! width would link, and go wrong at run time. So both texts are read here,
@@ -12,19 +13,27 @@ use std::fmt;
 use std::fs;
 use std::path::{Path, PathBuf};
 
+/// The crates that export calls, as build.rs links them.
+const EXPORTING: [&str; 4] = ["desk", "picturedesk", "filmdesk", "weavedesk"];
+
 #[test]
 fn every_declaration_is_held_to_the_rattle_source() {
     let root = Path::new(env!("CARGO_MANIFEST_DIR")).join("../..");
     let rattle = texts(&root.join("crates"), "rt");
-    let exporting: Vec<_> = texts(&root.join("crates/desk/src"), "rt");
     let rust = texts(&root.join("host/desk/src"), "rs");
 
+    let mut exporting = Vec::new();
+    for name in EXPORTING {
+        let source = texts(&root.join(format!("crates/{name}/src")), "rt");
+        let found = Side::of_rattle(&source, &[]);
+        assert!(
+            !found.functions.is_empty(),
+            "no export was found in crates/{name}/src; expected at least one"
+        );
+        exporting.extend(source);
+    }
     let exports = Side::of_rattle(&exporting, &rattle);
     let declared = Side::of_rust(&rust);
-    assert!(
-        !exports.functions.is_empty(),
-        "no export was found in crates/desk/src; expected at least one"
-    );
     let problems = problems(&exports, &declared);
     assert!(problems.is_empty(), "\n\n{}\n", problems.join("\n\n"));
 }
@@ -420,6 +429,7 @@ fn texts(folder: &Path, ending: &str) -> Vec<Text> {
 }
 
 /// Words, strings on one line, and single signs; `->` and `::` are one sign.
+/// Lifetimes go: they say nothing of what passes between the two sides.
 /// Comments go: to the end of the line, and nested ones between `/*` and `*/`.
 fn tokens(text: &str) -> Vec<String> {
     let chars: Vec<char> = text.chars().collect();
@@ -457,6 +467,16 @@ fn tokens(text: &str) -> Vec<String> {
             ('-', '>') | (':', ':') => {
                 at += 2;
                 found.push(chars[start..at].iter().collect());
+            }
+            ('\'', c) if is_word(c) => {
+                let end = (at + 1..chars.len()).find(|&end| !is_word(chars[end]));
+                let end = end.unwrap_or(chars.len());
+                if chars.get(end) == Some(&'\'') {
+                    found.push(chars[start..=end].iter().collect());
+                    at = end + 1;
+                } else {
+                    at = end;
+                }
             }
             (c, _) if c.is_whitespace() => at += 1,
             (c, _) if is_word(c) => {
@@ -559,6 +579,10 @@ impl Reader<'_> {
 
     fn function(&mut self) -> Result<Function, String> {
         let name = self.word()?;
+        // What is left of a list of lifetimes.
+        if self.take("<") {
+            self.expect(">")?;
+        }
         self.expect("(")?;
         let parameters = self.list(")")?;
         let result = if self.take("->") {
@@ -824,6 +848,68 @@ mod checker {
         refused("#[repr(C)]", "", &["Shape", "no struct marked"]);
         let nowhere = judged(&RATTLE.replace("#[repr(C)]", ""), RUST);
         assert!(nowhere[0].contains("in crates/"), "{nowhere:?}");
+    }
+
+    /// As crates/picturedesk has it: a struct by value that holds others by
+    /// value, one of them from another crate. What a signature names only by
+    /// way of another struct is compared too.
+    #[test]
+    fn structs_within_structs_are_compared() {
+        let plane = r#"
+            #[repr(C)]
+            pub struct Numbers { pub width: u32, pub layout: u32 }
+        "#;
+        let frame = r#"
+            use planes::Numbers;
+            #[repr(C)]
+            pub struct Frame { pub luma: Numbers, pub cb: planes::Numbers }
+            #[no_mangle]
+            pub extern "C" fn show(frame: Frame, luma: &[u8]) -> u8 { 0 }
+        "#;
+        let declared = r#"
+            #[repr(C)]
+            pub struct Numbers { pub width: u32, pub layout: u32 }
+            #[repr(C)]
+            pub struct Frame { pub luma: Numbers, pub cb: Numbers }
+            unsafe extern "C" {
+                fn show(frame: Frame, luma: *const u8, luma_len: usize) -> u8;
+            }
+        "#;
+        let judged = |plane: &str, declared: &str| {
+            let all = [plane, frame].map(|text| Text::new("made-up.rt", text));
+            let rust = [Text::new("made-up.rs", declared)];
+            problems(&Side::of_rattle(&all[1..], &all), &Side::of_rust(&rust))
+        };
+        assert_eq!(judged(plane, declared), Vec::<String>::new());
+        for (from, to, word) in [
+            (
+                "{ pub width: u32, pub layout: u32 }",
+                "{ pub width: u32, pub layout: u8 }",
+                "Numbers: the fields differ",
+            ),
+            (
+                "{ pub width: u32, pub layout: u32 }",
+                "{ pub layout: u32, pub width: u32 }",
+                "Numbers: the fields differ",
+            ),
+            (
+                "pub luma: Numbers, pub cb: Numbers",
+                "pub cb: Numbers, pub luma: Numbers",
+                "Frame: the fields differ",
+            ),
+            (", pub cb: Numbers", "", "Frame: the fields differ"),
+            ("cb: Numbers", "cb: Other", "Frame: the fields differ"),
+        ] {
+            let found = judged(plane, &declared.replacen(from, to, 1));
+            assert_eq!(found.len(), 1, "{found:#?}");
+            assert!(found[0].contains(word), "no `{word}` in: {}", found[0]);
+        }
+        // Marked on neither side, or on one only.
+        let unmarked = declared.replacen("#[repr(C)]", "", 1);
+        let found = judged(plane, &unmarked);
+        assert!(found[0].contains("Numbers: no struct marked"), "{found:?}");
+        let found = judged(&plane.replace("#[repr(C)]", ""), declared);
+        assert!(found[0].contains("in crates/ has this name"), "{found:?}");
     }
 
     /// As crates/desk has it: a root that names its files, a struct by value

@@ -22,6 +22,12 @@ pub trait Case: Clone + fmt::Debug {
     fn inputs(&self) -> u64 {
         1
     }
+
+    /// Adds its inputs to those that gave each number; `number` is what
+    /// `compare` gave. One whose inputs have numbers of their own adds each.
+    fn count(&self, number: u8, numbers: &mut BTreeMap<u8, u64>) {
+        *numbers.entry(number).or_default() += self.inputs();
+    }
 }
 
 /// In what the two sides differ, and what each of them said.
@@ -85,7 +91,7 @@ impl Tally {
         let mut numbers = BTreeMap::new();
         for case in cases {
             match judged(&case) {
-                Ok(number) => *numbers.entry(number).or_default() += case.inputs(),
+                Ok(number) => case.count(number, &mut numbers),
                 Err(difference) => {
                     let (case, difference) = smallest(case, difference);
                     return Err(Failure::Differs {
@@ -101,6 +107,13 @@ impl Tally {
             return Err(Failure::TooFew { tally, least });
         }
         Ok(tally)
+    }
+
+    /// Counts those of another part of the same run too.
+    pub fn add(&mut self, other: Self) {
+        for (number, count) in other.numbers {
+            *self.numbers.entry(number).or_default() += count;
+        }
     }
 
     pub fn compared(&self) -> u64 {

@@ -5,6 +5,10 @@
 
 use desk::{Conversion, PlaneNumbers};
 
+pub mod films;
+pub mod pictures;
+pub mod weaves;
+
 /// The lowest number whose condition holds; 0 where none does.
 fn lowest(conditions: &[(u8, bool)]) -> u8 {
     conditions
@@ -134,9 +138,9 @@ pub fn plane(quality: u8, first: u8, planes: [Lent; 3], out: usize) -> u8 {
     ])
 }
 
-/// "Each of the nine numbers is within -16..16; `kr` and `kb` lie in 0..0.4375.
-/// The three samples lie in 0..256." No NaN lies anywhere; -0.0 is 0.
-pub fn to_rgb(conversion: Conversion, samples: [f32; 3]) -> u8 {
+/// "Each of the nine numbers is within -16..16; `kr` and `kb` lie in 0..0.4375."
+/// No NaN lies anywhere; -0.0 is 0.
+fn nine_within(conversion: Conversion) -> bool {
     let Conversion {
         luma_offset,
         luma_gain,
@@ -159,9 +163,14 @@ pub fn to_rgb(conversion: Conversion, samples: [f32; 3]) -> u8 {
         chroma_cos,
         chroma_sin,
     ];
-    let within = nine.iter().all(|number| (-16.0..=16.0).contains(number))
+    nine.iter().all(|number| (-16.0..=16.0).contains(number))
         && [kr, kb].iter().all(|k| (0.0..=0.4375).contains(k))
-        && samples.iter().all(|sample| (0.0..=256.0).contains(sample));
+}
+
+/// "The three samples lie in 0..256."
+pub fn to_rgb(conversion: Conversion, samples: [f32; 3]) -> u8 {
+    let within =
+        nine_within(conversion) && samples.iter().all(|sample| (0.0..=256.0).contains(sample));
     lowest(&[(8, !within)])
 }
 

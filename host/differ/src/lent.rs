@@ -38,6 +38,15 @@ impl Plain for i32 {
     }
 }
 
+impl Plain for i64 {
+    fn of_noise(bits: u64) -> Self {
+        bits as Self
+    }
+    fn bits(self) -> u64 {
+        self as u64
+    }
+}
+
 impl Plain for f32 {
     fn of_noise(bits: u64) -> Self {
         Self::from_bits(bits as u32)

@@ -5,11 +5,13 @@
 //! [`case`] is the frame of a run, [`random`], [`plane`], [`given`] and
 //! [`lent`] make its inputs and its buffers, [`judge`] says which number
 //! document 01 gives, and [`runs`] lists the runs, one for each call.
+//! [`program`] starts the program `cadence`, for the runs over whole reel files.
 
 pub mod case;
 pub mod given;
 pub mod judge;
 pub mod lent;
 pub mod plane;
+pub mod program;
 pub mod random;
 pub mod runs;

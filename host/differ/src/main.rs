@@ -5,6 +5,7 @@
 //!     differ --list           their names
 //!     differ --whole quantise this one over its whole range; no part of the
 //!                             others, since it takes minutes
+//!     differ --whole detector a hundred million frames, likewise
 //!
 //! Prints the seed, then a line for each run. Ends with 1 at the first
 //! difference, after the smallest input that shows it and both answers; with 2

@@ -5,18 +5,29 @@ use crate::case::{Failure, Tally};
 use crate::random::Random;
 
 pub mod at;
+pub mod busy;
+pub mod cadences;
 pub mod code;
 pub mod comb;
 pub mod comb_rgba;
+pub mod detector;
 pub mod edge;
+mod fields;
+mod film;
 pub mod first_field;
 pub mod luma;
+pub mod picture;
 pub mod plane;
 pub mod quantise;
 mod read;
+pub mod readback;
 pub mod sample;
 pub mod to_rgb;
 mod trio;
+pub mod weave;
+pub mod weaver;
+pub mod woven;
+pub mod woven_line;
 
 pub struct Run {
     pub name: &'static str,
@@ -89,11 +100,75 @@ pub const RUNS: &[Run] = &[
         about: "every code",
         run: luma::run,
     },
+    Run {
+        name: picture::NAME,
+        about: "every quality and output of four pictures; pictures up to 40 by 40, planar, biplanar \
+                and mixed, of every depth, at rest and moving; the widest and the highest; \
+                the Rust's own conversions and random ones; codes, shapes, lengths, room and \
+                colour numbers past their bounds, planes that differ",
+        run: picture::run,
+    },
+    Run {
+        name: busy::NAME,
+        about: "planes up to 81 by 81, mostly around the edges of blocks, of which about a quarter \
+                of a block's samples differ by about 8; large planes; codes, shapes and \
+                lengths past their bounds",
+        run: busy::run,
+    },
+    Run {
+        name: cadences::NAME,
+        about: "every sequence of up to nine symbols; films with splices, stills, absent entries \
+                and counts at the thresholds; numbers, lengths and room past their bounds",
+        run: cadences::run,
+    },
+    Run {
+        name: detector::NAME,
+        about: "every sequence of five calls from a fresh detector, and of four from each phase of a \
+                lock; up to sixteen stills after a lock; films of counts and of pictures with \
+                splices, resets, other sizes and refused calls; the last frames that are taken",
+        run: detector::run,
+    },
+    Run {
+        name: weave::NAME,
+        about: "two fields up to 40 by 12, every depth, padding; the widest and the highest; more \
+                room than needed; shapes, lengths and room past their bounds, fields that differ",
+        run: weave::run,
+    },
+    Run {
+        name: woven_line::NAME,
+        about: "every line of two planes up to 40 by 12 and lines past them, and the twin's number \
+                from any lengths; shapes, lengths and room past their bounds",
+        run: woven_line::run,
+    },
+    Run {
+        name: woven::NAME,
+        about: "heights and denominators around 2^31 with every flag; random numbers",
+        run: woven::run,
+    },
+    Run {
+        name: readback::NAME,
+        about: "two and three planes of frames up to 40 by 16, every depth, padding; the widest and \
+                the highest; counts, shapes, lengths and room past their bounds",
+        run: readback::run,
+    },
+    Run {
+        name: weaver::NAME,
+        about: "streams of 600 fields that alternate, repeat and change, with and without times; \
+                clears; codes, shapes, lengths, states, stores and room past their bounds",
+        run: weaver::run,
+    },
 ];
 
 /// Runs over whole ranges: too long to be done each time.
-pub const WHOLE: &[Run] = &[Run {
-    name: quantise::NAME,
-    about: "every float",
-    run: quantise::every,
-}];
+pub const WHOLE: &[Run] = &[
+    Run {
+        name: quantise::NAME,
+        about: "every float",
+        run: quantise::every,
+    },
+    Run {
+        name: detector::NAME,
+        about: "every sequence of eleven symbols; films of a hundred million frames",
+        run: detector::many,
+    },
+];

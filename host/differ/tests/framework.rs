@@ -1,6 +1,7 @@
 //! The frame of the runs is itself able to fail: wrong code is caught and made
 //! small, a write too far is caught, and a run that compares nothing fails.
 
+use std::collections::BTreeMap;
 use std::hint::black_box;
 
 use differ::case::{Case, Difference, Failure, Least, Tally, same, smaller_numbers};
@@ -408,6 +409,40 @@ fn a_stretch_counts_each_of_its_inputs() {
     assert_eq!(tally.compared(), 70);
     let failure = Tally::of("stretch", least, [Stretch(0, 200)]).expect_err("77");
     assert!(failure.to_string().contains("Stretch(77, 78)"), "{failure}");
+}
+
+/// Three inputs at once, of which the last is refused.
+#[derive(Debug, Clone)]
+struct Mixed;
+
+impl Case for Mixed {
+    fn compare(&self) -> Result<u8, Difference> {
+        Ok(0)
+    }
+
+    fn smaller(&self) -> Vec<Self> {
+        Vec::new()
+    }
+
+    fn count(&self, number: u8, numbers: &mut BTreeMap<u8, u64>) {
+        *numbers.entry(number).or_default() += 2;
+        *numbers.entry(3).or_default() += 1;
+    }
+}
+
+#[test]
+fn inputs_with_numbers_of_their_own_are_counted_apart() {
+    let least = Least {
+        accepted: 4,
+        refused: 2,
+    };
+    let tally = Tally::of("mixed", least, [Mixed, Mixed]).expect("no difference");
+    assert_eq!((tally.accepted(), tally.gave(3)), (4, 2));
+    let least = Least {
+        refused: 3,
+        ..least
+    };
+    Tally::of("mixed", least, [Mixed, Mixed]).expect_err("too few are refused");
 }
 
 #[test]

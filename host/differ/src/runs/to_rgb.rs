@@ -17,12 +17,12 @@ pub fn by_rust(conversion: &colour::Conversion, y: f32, cb: f32, cr: f32) -> [f3
 }
 
 /// The nine numbers in the order of the struct, as both sides have it.
-type Nine = [f32; 9];
+pub(super) type Nine = [f32; 9];
 
 const KR: usize = 4;
 const KB: usize = 5;
 
-fn for_desk([a, b, c, d, e, f, g, h, i]: Nine) -> Conversion {
+pub(super) fn for_desk([a, b, c, d, e, f, g, h, i]: Nine) -> Conversion {
     Conversion {
         luma_offset: a,
         luma_gain: b,
@@ -36,7 +36,7 @@ fn for_desk([a, b, c, d, e, f, g, h, i]: Nine) -> Conversion {
     }
 }
 
-fn for_rust([a, b, c, d, e, f, g, h, i]: Nine) -> colour::Conversion {
+pub(super) fn for_rust([a, b, c, d, e, f, g, h, i]: Nine) -> colour::Conversion {
     colour::Conversion {
         luma_offset: a,
         luma_gain: b,
@@ -50,7 +50,7 @@ fn for_rust([a, b, c, d, e, f, g, h, i]: Nine) -> colour::Conversion {
     }
 }
 
-fn nine_of(conversion: colour::Conversion) -> Nine {
+pub(super) fn nine_of(conversion: colour::Conversion) -> Nine {
     let colour::Conversion {
         luma_offset,
         luma_gain,
@@ -117,7 +117,7 @@ impl Case for Coloured {
 }
 
 /// 0 and 1 first; then without the sign, the fraction or the lower bits.
-fn simpler_floats(number: f32) -> Vec<f32> {
+pub(super) fn simpler_floats(number: f32) -> Vec<f32> {
     if number.to_bits() == 0 {
         return Vec::new();
     }
@@ -149,7 +149,7 @@ fn simpler_floats(number: f32) -> Vec<f32> {
 }
 
 /// The ends of a number's range.
-fn range(at: usize) -> [f32; 2] {
+pub(super) fn range(at: usize) -> [f32; 2] {
     if at == KR || at == KB {
         [0.0, 0.4375]
     } else {
@@ -194,7 +194,7 @@ fn between(random: &mut Random, [low, high]: [f32; 2]) -> f32 {
 }
 
 /// Just outside of a range, far outside, or no number.
-fn outside(random: &mut Random, [low, high]: [f32; 2]) -> f32 {
+pub(super) fn outside(random: &mut Random, [low, high]: [f32; 2]) -> f32 {
     let nan = f32::from_bits(0x7F80_0001 + random.below(0x7F_FFFF) as u32);
     match random.below(10) {
         0 | 1 => low.next_down(),
@@ -207,13 +207,13 @@ fn outside(random: &mut Random, [low, high]: [f32; 2]) -> f32 {
     }
 }
 
-fn random_nine(random: &mut Random) -> Nine {
+pub(super) fn random_nine(random: &mut Random) -> Nine {
     std::array::from_fn(|at| between(random, range(at)))
 }
 
 /// What the Rust itself makes for a matrix, a depth and a range, adjusted or
 /// not.
-fn made_by_rust(random: &mut Random) -> Nine {
+pub(super) fn made_by_rust(random: &mut Random) -> Nine {
     let matrix = *random.pick(&[Matrix::Bt709, Matrix::Bt2020]);
     let depth = random.between(8, 16) as u8;
     let mut made = colour::Conversion::new(matrix, depth, random.one_in(2));

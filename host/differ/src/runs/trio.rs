@@ -159,15 +159,15 @@ fn size(random: &mut Random, most_width: u32, most_height: u32) -> (u32, u32) {
 }
 
 /// A plane on the way: what its stride and its length have beside the least.
-struct Draft {
-    shape: PlaneNumbers,
-    padding: i64,
-    more: i64,
+pub(super) struct Draft {
+    pub shape: PlaneNumbers,
+    pub padding: i64,
+    pub more: i64,
 }
 
 impl Draft {
     /// Puts one of its numbers at or past a bound, or off the others.
-    fn spoil(&mut self, random: &mut Random) {
+    pub fn spoil(&mut self, random: &mut Random) {
         let shape = &mut self.shape;
         let beside = |random: &mut Random, number: u32| {
             let sign = *random.pick(&[-1, 1]);
@@ -189,7 +189,7 @@ impl Draft {
         }
     }
 
-    fn shape_and_length(mut self, random: &mut Random) -> Lent {
+    pub fn shape_and_length(mut self, random: &mut Random) -> Lent {
         let row = judge::row(self.shape) as i64;
         self.shape.stride = (row + self.padding).clamp(0, u32::MAX.into()) as u32;
         let needed = judge::needed(self.shape);

@@ -1,0 +1,381 @@
+//! What the runs of block counts and of the detector share: pictures of luma
+//! for both sides, the Rust's view of them, and films of symbols.
+
+use std::cell::OnceCell;
+use std::fmt;
+
+use desk::PlaneNumbers;
+use oracle::mediadecoder::es::Format;
+use oracle::mediadecoder::video::{Frame, Plane};
+use oracle::video::field::{Cadence, Parity};
+use oracle::video::filter::{Planes, Samples};
+
+use crate::judge;
+use crate::lent::Between;
+use crate::random::Random;
+
+/// The field of a code that the judge lets pass.
+pub fn parity_named(code: u8) -> Parity {
+    match code {
+        0 => Parity::Top,
+        1 => Parity::Bottom,
+        other => unreachable!("the judge refuses parity {other}"),
+    }
+}
+
+/// The desk's number of a cadence.
+pub fn cadence_number(cadence: Cadence) -> u8 {
+    match cadence {
+        Cadence::None => 0,
+        Cadence::Whole => 1,
+        Cadence::Drop => 2,
+        Cadence::Spanning => 3,
+    }
+}
+
+// ---- Pictures
+
+/// A plane within the bounds as the Rust's detector reads luma: planar, and not
+/// shifted. One of another layout is first read by the Rust's own `Samples`.
+pub fn luma_of(plane: &Plane, shape: PlaneNumbers) -> Plane {
+    let PlaneNumbers {
+        width,
+        height,
+        layout,
+        ..
+    } = shape;
+    if layout == 0 {
+        return plane.clone();
+    }
+    let samples = samples_of(plane, shape);
+    let places = || (0..height as usize).flat_map(|y| (0..width as usize).map(move |x| (x, y)));
+    let codes = places().map(|(x, y)| samples.code(x, y) as u16);
+    let (data, size): (Vec<u8>, usize) = if shape.depth > 8 {
+        (codes.flat_map(u16::to_le_bytes).collect(), 2)
+    } else {
+        (codes.map(|code| code as u8).collect(), 1)
+    };
+    Plane {
+        data,
+        stride: width as usize * size,
+        width: width as usize,
+        height: height as usize,
+    }
+}
+
+fn samples_of(plane: &Plane, shape: PlaneNumbers) -> Samples<'_> {
+    let depth = shape.depth as u8;
+    let biplanar = || Planes::biplanar(plane, plane, depth);
+    match shape.layout {
+        0 => Samples::new(plane, depth),
+        1 => biplanar().y,
+        2 => biplanar().cb,
+        3 => biplanar().cr,
+        other => unreachable!("the judge refuses layout {other}"),
+    }
+}
+
+/// A frame as the Rust takes it: nothing but luma, and the field that leads.
+pub fn frame_of(luma: Plane, depth: u32, first: u8) -> Frame {
+    Frame {
+        format: Format {
+            width: luma.width as u32,
+            height: luma.height as u32,
+            depth: depth as u8,
+            ..Format::default()
+        },
+        planes: [luma, Plane::default(), Plane::default()],
+        top_field_first: first == 0,
+        ..Frame::default()
+    }
+}
+
+/// "Luma is kept as 8 bits: codes above 8 bits go right by depth - 8, modulo
+/// 256": the frame that a store keeps, row by row.
+pub fn kept_of(plane: &Plane, shape: PlaneNumbers) -> Vec<u8> {
+    let samples = samples_of(plane, shape);
+    let mut kept = Vec::with_capacity(shape.width as usize * shape.height as usize);
+    for y in 0..shape.height as usize {
+        for x in 0..shape.width as usize {
+            kept.push((samples.code(x, y) >> (shape.depth - 8)) as u8);
+        }
+    }
+    kept
+}
+
+/// One field of a picture: a level, and so much more than it in the first
+/// samples of the first blocks.
+#[derive(Debug, Clone, Copy, PartialEq, Eq)]
+pub struct Look {
+    pub level: u8,
+    pub blocks: u32,
+    pub samples: u32,
+    pub more: u8,
+}
+
+impl Look {
+    pub const fn flat(level: u8) -> Self {
+        Self {
+            level,
+            blocks: 0,
+            samples: 0,
+            more: 0,
+        }
+    }
+
+    /// The kept sample in a column and a row of the field.
+    fn at(&self, width: u32, x: u32, row: u32) -> u8 {
+        let block = x / 16 + width.div_ceil(16) * (row / 8);
+        let within = x % 16 + 16 * (row % 8);
+        if block < self.blocks && within < self.samples {
+            self.level.wrapping_add(self.more)
+        } else {
+            self.level
+        }
+    }
+}
+
+/// A picture that is put to a detector: the shape that is said of it, which
+/// need not be within the bounds, a length, which need not suffice, and its
+/// fields, top and bottom. Padding, and bits below the kept eight or above the
+/// depth, are noise.
+pub struct Shown {
+    pub shape: PlaneNumbers,
+    pub length: usize,
+    pub looks: [Look; 2],
+    pub noise: u64,
+    /// Made when first asked for.
+    sides: OnceCell<Sides>,
+}
+
+struct Sides {
+    rattle: Between,
+    /// Where the shape is within the bounds and the length suffices: the same
+    /// for the Rust, led by either field, and what is kept of it.
+    rust: Option<([Frame; 2], Vec<u8>)>,
+}
+
+impl fmt::Debug for Shown {
+    fn fmt(&self, f: &mut fmt::Formatter<'_>) -> fmt::Result {
+        let Self {
+            shape,
+            length,
+            looks,
+            noise,
+            ..
+        } = self;
+        write!(
+            f,
+            "Shown {{ {shape:?}, length: {length}, looks: {looks:?}, noise: {noise} }}"
+        )
+    }
+}
+
+impl Shown {
+    pub fn new(shape: PlaneNumbers, length: usize, looks: [Look; 2], noise: u64) -> Self {
+        Self {
+            shape,
+            length,
+            looks,
+            noise,
+            sides: OnceCell::new(),
+        }
+    }
+
+    /// Just as long as it needs to be.
+    pub fn whole(shape: PlaneNumbers, looks: [Look; 2], noise: u64) -> Self {
+        Self::new(shape, judge::needed(shape) as usize, looks, noise)
+    }
+
+    fn bytes(&self) -> Vec<u8> {
+        let mut random = Random::new(self.noise);
+        let mut bytes = random.bytes(self.length);
+        let PlaneNumbers {
+            width,
+            height,
+            depth,
+            stride,
+            layout,
+        } = self.shape;
+        if !judge::in_bounds(self.shape) || layout > 3 {
+            return bytes;
+        }
+        let size = if depth > 8 { 2 } else { 1 };
+        let components = judge::components(layout) as usize;
+        let second = usize::from(layout == 3);
+        for y in 0..height {
+            for x in 0..width {
+                let kept = u16::from(self.looks[(y % 2) as usize].at(width, x, y / 2));
+                let at = y as usize * stride as usize + (x as usize * components + second) * size;
+                let Some(place) = bytes.get_mut(at..at + size) else {
+                    return bytes;
+                };
+                if depth == 8 {
+                    place[0] = kept as u8;
+                    continue;
+                }
+                let noise = u16::from_le_bytes([place[0], place[1]]);
+                let shift = if layout == 0 { depth - 8 } else { 8 };
+                let own = 0xFF << shift;
+                let code = kept << shift | noise & !own;
+                place.copy_from_slice(&code.to_le_bytes());
+            }
+        }
+        bytes
+    }
+
+    fn sides(&self) -> &Sides {
+        self.sides.get_or_init(|| {
+            let bytes = self.bytes();
+            let rattle = Between::noise(&bytes);
+            let shape = self.shape;
+            let right = judge::in_bounds(shape)
+                && shape.layout <= 3
+                && self.length as u64 >= judge::needed(shape);
+            let rust = right.then(|| {
+                let plane = Plane {
+                    data: bytes,
+                    stride: shape.stride as usize,
+                    width: shape.width as usize * judge::components(shape.layout) as usize,
+                    height: shape.height as usize,
+                };
+                let luma = luma_of(&plane, shape);
+                let frames = [0, 1].map(|first| frame_of(luma.clone(), shape.depth, first));
+                (frames, kept_of(&plane, shape))
+            });
+            Sides { rattle, rust }
+        })
+    }
+
+    pub fn lent(&self) -> &[u8] {
+        self.sides().rattle.lent()
+    }
+
+    /// The frame as the Rust takes it, and the bytes that are kept of it; only
+    /// of a picture that the judge lets pass.
+    pub fn rust(&self, first: u8) -> (&Frame, &[u8]) {
+        let (frames, kept) = self.sides().rust.as_ref().expect("the judge let it pass");
+        (&frames[usize::from(first)], kept)
+    }
+}
+
+// ---- Symbols
+
+/// What a frame shows against the one before.
+#[derive(Debug, Clone, Copy, PartialEq, Eq)]
+pub enum Symbol {
+    Still,
+    Moved,
+    RepeatFirst,
+    RepeatSecond,
+}
+
+pub const SYMBOLS: [Symbol; 4] = [
+    Symbol::Still,
+    Symbol::Moved,
+    Symbol::RepeatFirst,
+    Symbol::RepeatSecond,
+];
+
+/// What document 01's table expects at each step.
+pub const PATTERN: [Symbol; 5] = [
+    Symbol::Moved,
+    Symbol::Moved,
+    Symbol::RepeatFirst,
+    Symbol::Moved,
+    Symbol::RepeatSecond,
+];
+
+impl Symbol {
+    /// Busy blocks of the leading and of the trailing field that show it, of
+    /// 1,350.
+    pub fn usual(self) -> [u64; 2] {
+        match self {
+            Self::Still => [0, 0],
+            Self::Moved => [40, 40],
+            Self::RepeatFirst => [0, 40],
+            Self::RepeatSecond => [40, 0],
+        }
+    }
+
+    /// Busy blocks that show it just so, of `total` blocks: "moving =
+    /// max(blocks/128, 4), quiet = max(blocks/1024, 1)".
+    pub fn near(self, random: &mut Random, total: u64) -> [u64; 2] {
+        let moving = (total / 128).max(4);
+        let quiet = (total / 1024).max(1);
+        let low = |random: &mut Random| *random.pick(&[0, quiet - 1, quiet]);
+        let high = |random: &mut Random| {
+            let above = *random.pick(&[0, 1, 9, 1000]);
+            moving.saturating_add(above)
+        };
+        match self {
+            Self::Still => {
+                [0; 2].map(|_| *random.pick(&[0, quiet, quiet + 1, moving - 2, moving - 1]))
+            }
+            Self::Moved => {
+                let other = *random.pick(&[quiet + 1, moving - 1, moving, moving + 1]);
+                let mut both = [other, high(random)];
+                if random.one_in(2) {
+                    both.reverse();
+                }
+                both
+            }
+            Self::RepeatFirst => [low(random), high(random)],
+            Self::RepeatSecond => [high(random), low(random)],
+        }
+    }
+}
+
+/// One frame of a film: what it shows, or nothing; and the field that leads.
+#[derive(Debug, Clone, Copy, PartialEq, Eq)]
+pub struct Seen {
+    pub symbol: Option<Symbol>,
+    pub first: u8,
+}
+
+/// A film that keeps to the pattern, but for splices, stills, frames that show
+/// nothing and changes of the leading field, now and then.
+pub struct Film {
+    step: usize,
+    first: u8,
+    /// Stills that are yet to come.
+    stills: u64,
+    /// One in so many frames is out of order.
+    seldom: u64,
+}
+
+impl Film {
+    pub fn new(random: &mut Random) -> Self {
+        Self {
+            step: random.below(5) as usize,
+            first: random.below(2) as u8,
+            stills: 0,
+            seldom: *random.pick(&[6, 12, 25, 60, 200]),
+        }
+    }
+
+    pub fn next(&mut self, random: &mut Random) -> Seen {
+        let mut symbol = Some(PATTERN[self.step]);
+        self.step = (self.step + 1) % 5;
+        if self.stills > 0 {
+            self.stills -= 1;
+            symbol = Some(Symbol::Still);
+        } else if random.one_in(self.seldom) {
+            match random.below(8) {
+                0 | 1 => self.step = random.below(5) as usize,
+                2 | 3 => {
+                    // The eleventh still keeps a lock, and the twelfth ends it.
+                    self.stills = *random.pick(&[0, 1, 3, 9, 10, 11, 12, 14, 20]);
+                    symbol = Some(Symbol::Still);
+                }
+                4 => self.first ^= 1,
+                5 => symbol = None,
+                _ => symbol = Some(*random.pick(&SYMBOLS)),
+            }
+        }
+        Seen {
+            symbol,
+            first: self.first,
+        }
+    }
+}

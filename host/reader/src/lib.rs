@@ -1,0 +1,231 @@
+//! A second reader of reel files: document 01, "Reel file and listing", over
+//! the original's detector. It is written from that page alone, so that it can
+//! judge the program `cadence`.
+
+use std::fmt::Write;
+
+use oracle::mediadecoder::es::{Format, Structure};
+use oracle::mediadecoder::video::{Frame, Plane};
+use oracle::video::field::{Cadence, Parity};
+use oracle::video::telecine::Detector;
+
+pub mod reel;
+
+/// Why a file is refused: a number of the listing's own.
+#[derive(Debug, Clone, Copy, PartialEq, Eq)]
+struct Fault(u8);
+
+/// "3 for a wrong count, parity or present number, pictures without a shape,
+/// or bytes after the end".
+const WRONG: Fault = Fault(3);
+/// "4 for a bad shape".
+const SHAPE: Fault = Fault(4);
+/// "6 for a file cut short".
+const SHORT: Fault = Fault(6);
+/// "7, once a picture count above 0 is read, if a picture is too large."
+const LARGE: Fault = Fault(7);
+
+/// "A picture is at most 16,384 bytes."
+const MOST_BYTES: usize = 16_384;
+
+/// What `cadence` prints of a file with these bytes.
+pub fn listing(file: &[u8]) -> String {
+    let mut listing = Listing::default();
+    match listing.read(&mut Rest(file)) {
+        Ok(()) => listing.totals(),
+        Err(Fault(number)) => listing.line(format_args!("refused {number}")),
+    }
+    listing.text
+}
+
+/// The bytes that are still to be read.
+struct Rest<'a>(&'a [u8]);
+
+impl<'a> Rest<'a> {
+    /// The next bytes, if so many are left.
+    fn bytes(&mut self, count: usize) -> Result<&'a [u8], Fault> {
+        let (bytes, rest) = self.0.split_at_checked(count).ok_or(SHORT)?;
+        self.0 = rest;
+        Ok(bytes)
+    }
+
+    /// "Numbers are 16 bits, low byte first."
+    fn numbers<const COUNT: usize>(&mut self) -> Result<[u16; COUNT], Fault> {
+        let bytes = self.bytes(2 * COUNT)?;
+        let mut numbers = [0; COUNT];
+        for (number, pair) in numbers.iter_mut().zip(bytes.chunks(2)) {
+            *number = u16::from_le_bytes([pair[0], pair[1]]);
+        }
+        Ok(numbers)
+    }
+
+    fn count(&mut self) -> Result<u16, Fault> {
+        let [count] = self.numbers()?;
+        Ok(count)
+    }
+}
+
+/// The shape of every picture of a file.
+#[derive(Debug, Clone, Copy)]
+struct Shape {
+    width: u16,
+    height: u16,
+    depth: u16,
+    stride: u16,
+    leading: Parity,
+}
+
+impl Shape {
+    fn of(numbers: [u16; 5]) -> Result<Self, Fault> {
+        let [width, height, depth, stride, parity] = numbers;
+        // The parity first: it has the lower number.
+        let leading = parity_named(parity)?;
+        let row = u32::from(width) * if depth > 8 { 2 } else { 1 };
+        let good = (1..=8192).contains(&width)
+            && (1..=4352).contains(&height)
+            && (8..=16).contains(&depth)
+            && row <= u32::from(stride);
+        if !good {
+            return Err(SHAPE);
+        }
+        Ok(Self {
+            width,
+            height,
+            depth,
+            stride,
+            leading,
+        })
+    }
+
+    /// "Pictures of stride * height bytes".
+    fn bytes(&self) -> usize {
+        usize::from(self.stride) * usize::from(self.height)
+    }
+
+    /// A picture as the original's detector takes it: it looks at luma alone.
+    fn frame(&self, bytes: &[u8]) -> Frame {
+        Frame {
+            format: Format {
+                width: self.width.into(),
+                height: self.height.into(),
+                depth: self.depth as u8,
+                ..Format::default()
+            },
+            planes: [
+                Plane {
+                    data: bytes.to_vec(),
+                    stride: self.stride.into(),
+                    width: self.width.into(),
+                    height: self.height.into(),
+                },
+                Plane::default(),
+                Plane::default(),
+            ],
+            structure: Structure::Frame,
+            top_field_first: self.leading == Parity::Top,
+            ..Frame::default()
+        }
+    }
+}
+
+fn parity_named(number: u16) -> Result<Parity, Fault> {
+    match number {
+        0 => Ok(Parity::Top),
+        1 => Ok(Parity::Bottom),
+        _ => Err(WRONG),
+    }
+}
+
+/// The detector, and what is printed so far.
+#[derive(Default)]
+struct Listing {
+    detector: Detector,
+    text: String,
+    frames: u32,
+    whole: u32,
+    drop: u32,
+    spanning: u32,
+    none: u32,
+}
+
+impl Listing {
+    /// Reads the three sections in turn, "each after its count".
+    fn read(&mut self, rest: &mut Rest<'_>) -> Result<(), Fault> {
+        let shape = match rest.count()? {
+            0 => None,
+            5 => Some(Shape::of(rest.numbers()?)?),
+            _ => return Err(WRONG),
+        };
+        for _ in 0..rest.count()? {
+            self.entry(rest.numbers()?)?;
+        }
+        let pictures = rest.count()?;
+        if pictures > 0 {
+            let shape = shape.ok_or(WRONG)?;
+            if shape.bytes() > MOST_BYTES {
+                return Err(LARGE);
+            }
+            for _ in 0..pictures {
+                let frame = shape.frame(rest.bytes(shape.bytes())?);
+                let cadence = self.detector.push(&frame);
+                self.frame(cadence);
+            }
+        }
+        if rest.0.is_empty() {
+            Ok(())
+        } else {
+            Err(WRONG)
+        }
+    }
+
+    /// "An entry is parity (0 top), present (0 or 1), then busy and total of the
+    /// leading field, then of the trailing; absent entries' numbers are ignored."
+    fn entry(&mut self, numbers: [u16; 6]) -> Result<(), Fault> {
+        let [parity, present, busy, total, busy_after, total_after] = numbers;
+        let leading = parity_named(parity)?;
+        let counts = |busy: u16, total: u16| (busy.into(), total.into());
+        let measured = match present {
+            0 => None,
+            1 => Some((counts(busy, total), counts(busy_after, total_after))),
+            _ => return Err(WRONG),
+        };
+        let cadence = self.detector.push_measured(leading, measured);
+        self.frame(cadence);
+        Ok(())
+    }
+
+    /// "A line per frame: number, cadence, lock (0/1)".
+    fn frame(&mut self, cadence: Cadence) {
+        let (name, total) = match cadence {
+            Cadence::Whole => ("whole", &mut self.whole),
+            Cadence::Drop => ("drop", &mut self.drop),
+            Cadence::Spanning => ("spanning", &mut self.spanning),
+            Cadence::None => ("none", &mut self.none),
+        };
+        *total += 1;
+        let number = self.frames;
+        self.frames += 1;
+        let lock = u8::from(self.detector.locked());
+        self.line(format_args!("{number} {name} {lock}"));
+    }
+
+    fn totals(&mut self) {
+        let Self {
+            whole,
+            drop,
+            spanning,
+            none,
+            ..
+        } = *self;
+        self.line(format_args!(
+            "whole {whole} drop {drop} spanning {spanning} none {none}"
+        ));
+    }
+
+    fn line(&mut self, line: std::fmt::Arguments<'_>) {
+        writeln!(self.text, "{line}").expect("a String takes every line");
+    }
+}
+
+#[cfg(test)]
+mod tests;

@@ -1,0 +1,75 @@
+//! Reel files from their parts: document 01, "Reel file and listing".
+
+/// A file in its three sections. Nothing holds the parts to the rules, so that
+/// damaged files can be made too.
+#[derive(Debug, Clone, PartialEq, Eq, Default)]
+pub struct Reel {
+    /// None, or width, height, depth, stride and parity.
+    pub shape: Vec<u16>,
+    pub entries: Vec<Entry>,
+    pub pictures: Vec<Vec<u8>>,
+}
+
+/// What was measured of a frame.
+#[derive(Debug, Clone, Copy, PartialEq, Eq)]
+pub struct Entry {
+    /// Of the leading field: 0 top, 1 bottom.
+    pub parity: u16,
+    /// 1, or 0 where there are no counts.
+    pub present: u16,
+    /// Busy blocks and all blocks, of the leading field, then of the trailing.
+    pub counts: [u16; 4],
+}
+
+impl Entry {
+    pub fn bytes(&self) -> Vec<u8> {
+        let mut bytes = Vec::new();
+        put(&mut bytes, &[self.parity, self.present]);
+        put(&mut bytes, &self.counts);
+        bytes
+    }
+}
+
+fn put(bytes: &mut Vec<u8>, numbers: &[u16]) {
+    for number in numbers {
+        bytes.extend(number.to_le_bytes());
+    }
+}
+
+impl Reel {
+    /// The file. A section that is too long for a count has it modulo 65,536.
+    pub fn bytes(&self) -> Vec<u8> {
+        let mut bytes = Vec::new();
+        put(&mut bytes, &[self.shape.len() as u16]);
+        put(&mut bytes, &self.shape);
+        put(&mut bytes, &[self.entries.len() as u16]);
+        for entry in &self.entries {
+            bytes.extend(entry.bytes());
+        }
+        put(&mut bytes, &[self.pictures.len() as u16]);
+        bytes.extend(self.pictures.concat());
+        bytes
+    }
+
+    /// The example of document 01: "shape 0; 13 entries, all top, totals 1350;
+    /// pictures 0. Entry 0 absent; 1, 6, 11, 12 busy 0 and 40; 3, 8 busy 40 and
+    /// 0; others 40 and 40."
+    pub fn example() -> Self {
+        let entry = |at| {
+            let (leading, trailing) = match at {
+                1 | 6 | 11 | 12 => (0, 40),
+                3 | 8 => (40, 0),
+                _ => (40, 40),
+            };
+            Entry {
+                parity: 0,
+                present: u16::from(at != 0),
+                counts: [leading, 1350, trailing, 1350],
+            }
+        };
+        Self {
+            entries: (0..13).map(entry).collect(),
+            ..Self::default()
+        }
+    }
+}
