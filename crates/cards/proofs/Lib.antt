@@ -1,0 +1,2 @@
+-- The proof of the cards. Assumes nothing.
+pub mod Cards

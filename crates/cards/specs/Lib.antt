@@ -1,0 +1,2 @@
+-- The bench cards that are proved. Assumes nothing.
+pub mod Cards
