@@ -1,13 +1,13 @@
 -- What inner functions promise. Only their contracts cite it. Assumes nothing.
 use Prim.Native.Nat.{ℕ, _*_, _≤_}
-use Rattle.field.specs.Field.{cadenceNumber}
-use Rattle.pulldown.specs.declared.Answer.{Answer}
-use Rattle.pulldown.specs.declared.Answer.the-variants as answer
+use mathlib.Core.List.{List}
+use Rattle.pulldown.specs.Codes.{codeOf}
+use Rattle.telecine.specs.History.{seenOf}
+use Rattle.entry.specs.Entry.{pushIn, entryAt, earlierThan}
 
--- the byte of an answer: that of its cadence, and 0 for a refusal
-abbrev pub answerByte : Answer → ℕ
-answerByte (answer.Gave c) = cadenceNumber c
-answerByte (answer.Refused n) = 0
+-- what is seen of entry k, as a code
+unfoldable pub codeAt : List ℕ → ℕ → ℕ
+codeAt bytes k = codeOf (seenOf (pushIn (entryAt bytes k)) (earlierThan bytes k))
 
 -- n entries that stand in so many bytes, for which there is room, and which a fresh detector takes
 pub record Ready (n bytes room : ℕ) : Type 0 where

@@ -3,14 +3,13 @@
 // Assumes nothing.
 ghost use mathlib.Core.Path.{_≡_};
 ghost use mathlib.Core.List.{[], _∷_};
-ghost use Prim.Native.Nat.{_*_, _<_, _≤_};
+ghost use Prim.Native.Nat.{_+_, _*_, _<_, _≤_};
 ghost use lib.ListN.{length, getD};
 ghost use Rattle.laws.specs.Refusal.{lowest, written};
 ghost use Rattle.laws.specs.Rows.{listed, over};
 ghost use Rattle.field.specs.Field.{parityNamed};
 ghost use Rattle.entry.specs.Entry.{wordAt, entryOf, goodEntry, measuredIn, entryAt, cadenceAt, everyBelow, cadencesNo, cadencesOf};
-ghost use Rattle.entry.specs.Inner.{answerByte, Ready};
-use pulldown::Answer;
+ghost use Rattle.entry.specs.Inner.{codeAt, Ready};
 
 // The numbers of an entry as they stand in the file.
 pub struct Entry {
@@ -87,11 +86,13 @@ impl Entry {
 
 // ---- entries one after another
 
+// Where the part's length is known, `entry_of` tests nothing at run time.
 fn entry_at(entries: &[u8], k: usize) -> Entry
-    requires { ⌜ 12 * k ≤ length (now entries) ⌝ }
+    requires { ⌜ 12 * k + 12 ≤ length (now entries) ⌝ }
     ensures { λ r. ⌜ r ≡ entryAt (now (entries .entry)) k ⌝ }
 {
-    entry_of(&entries[12 * k..])
+    let at = 12 * k;
+    entry_of(&entries[at..at + 12])
 }
 
 // Whether each of n entries names what it must.
@@ -129,13 +130,20 @@ fn lowest_of(outside: bool, short_input: bool, short_output: bool, too_many_fram
     }
 }
 
-// A refusal does not come, where there are no more entries than a detector takes.
-fn byte_of(answer: Answer) -> u8
-    ensures { λ r. ⌜ r ≡ answerByte answer ⌝ }
+// What is seen of each of n entries that were judged, as a code.
+fn write_codes(out: &mut [u8], entries: &[u8], n: usize)
+    requires { ⌜ Ready n (length (now entries)) (length (now out)) ⌝ }
+    ensures { λ _. ⌜ now (out .exit) ≡ over (listed n (codeAt (now (entries .entry)))) (now (out .entry)) ⌝ }
 {
-    match answer {
-        Answer::Gave(cadence) => cadence.number(),
-        Answer::Refused(_) => 0,
+    let mut last = field::Chosen::Neither;
+    let mut k = 0;
+    while k < n {
+        let entry = entry_at(entries, k);
+        let first = entry.first();
+        let seen = telecine::seen_measured(last, first, entry.measured());
+        out[k] = pulldown::code_of(seen);
+        last = field::Chosen::Field(first);
+        k += 1;
     }
 }
 
@@ -144,17 +152,8 @@ fn write_cadences(out: &mut [u8], entries: &[u8], n: usize)
     requires { ⌜ Ready n (length (now entries)) (length (now out)) ⌝ }
     ensures { λ _. ⌜ now (out .exit) ≡ over (listed n (cadenceAt (now (entries .entry)))) (now (out .entry)) ⌝ }
 {
-    let mut detector = telecine::Detector::new();
-    let mut k = 0;
-    while k < n {
-        let entry = entry_at(entries, k);
-        let pushed = detector.push_measured(entry.first(), entry.measured());
-        let answer = pushed.answer;
-        out[k] = byte_of(answer);
-        let left = pushed.detector;
-        detector = left;
-        k += 1;
-    }
+    write_codes(out, entries, n);
+    pulldown::cadences_of(&mut out[0..n]);
 }
 
 // The cadence of each entry, from a fresh detector: 0 None, 1 Whole, 2 Drop, 3 Spanning. Numbers 3, 6,

@@ -12,6 +12,7 @@ use borrow.Author.Tests.{ltb-true, ltb-false, lt-ltb, le-ltb, leb-true, leb-fals
 use Rattle.laws.specs.Refusal.{lowest}
 use Rattle.field.specs.declared.Cadence.the-variants.{None}
 use Rattle.pulldown.specs.declared.Symbol.{Symbol}
+use Rattle.pulldown.specs.declared.Symbol.the-variants.{Still, Moved, RepeatFirst, RepeatSecond}
 use Rattle.pulldown.specs.declared.Seen.{Seen}
 use Rattle.pulldown.specs.declared.Seen.the-variants as seen
 use Rattle.pulldown.specs.declared.Lock.{Lock}
@@ -20,7 +21,7 @@ use Rattle.pulldown.specs.Table.{cadenceAt}
 use Rattle.pulldown.specs.Runs.{Frame, frameOf, stepOf, Meets, meets, phaseOf, lockFrame, contradicts, goOn, runOf, cadenceBy, foretold}
 use Rattle.pulldown.specs.Lock.{advanceOf, pushLock, lockOf}
 use Rattle.pulldown.specs.Claims.{Third, ThirdDemand, OnePhase, MeetsDecided, PhaseSays}
-use Rattle.pulldown.specs.Claims.{Contradicts, Runs, Locked, LockFrameSays, LockedSays, PredictSays, PushSays, PredictNo, AnswerSettled}
+use Rattle.pulldown.specs.Claims.{Contradicts, Runs, Locked, LockFrameSays, LockedSays, PredictSays, PushSays, PredictNo, AnswerSettled, CodeSeen}
 use Rattle.pulldown.proofs.Bools.{known, clash, and-left, and-right}
 use Rattle.pulldown.proofs.Phases.{meets-of, meets-from, phase-is, phase-met, phase-none, no-phase, none-met, met-before}
 use Rattle.pulldown.proofs.Phases as phases
@@ -179,6 +180,13 @@ answer-settled (answer.Gave c) (answer.Gave d) n v = let e : c ≡ d = cc in ap 
 answer-settled (answer.Gave c) (answer.Refused k) n v = cc
 answer-settled (answer.Refused k) (answer.Gave c) n v = cc
 answer-settled (answer.Refused k) (answer.Refused j) n v = ap answer.Refused n
+
+pub code-seen : CodeSeen
+code-seen seen.NotComparable = refl
+code-seen (seen.Symbol Still) = refl
+code-seen (seen.Symbol Moved) = refl
+code-seen (seen.Symbol RepeatFirst) = refl
+code-seen (seen.Symbol RepeatSecond) = refl
 
 -- ---- histories
 pub holds : (seens : List Seen) → length seens ≤ 4000000000 → Holds (lockOf seens) seens

@@ -3,7 +3,9 @@ pub mod Bools
 pub mod FirstPhase
 pub mod Walk
 pub mod Phases
+pub mod Few
 pub mod Follow
 pub mod Holds
 pub mod Claims
+pub mod Codes
 pub mod Cards

@@ -16,6 +16,7 @@ use Rattle.pulldown.specs.declared.Answer.{Answer}
 use Rattle.pulldown.specs.Table.{cadenceAt}
 use Rattle.pulldown.specs.Runs.{Frame, frameOf, stepOf, stillOrExpected, Meets, meets, phaseOf, lockFrame, runOf, foretold}
 use Rattle.pulldown.specs.Lock.{answerNo, answerValues, lockedOf, pushNo, pushCadence, pushLock, predictNo, predictCadence, lockOf}
+use Rattle.pulldown.specs.Codes.{codeOf, seenBy}
 
 -- ---- demand 3
 
@@ -118,3 +119,7 @@ PredictNo = (ahead : ℕ) → ((predictNo ahead ≡ 10) ↔ (1000000 < ahead)) �
 -- The number and the values of an answer leave no other answer.
 abbrev pub AnswerSettled : Type 0
 AnswerSettled = (a b : Answer) → answerNo a ≡ answerNo b → answerValues a ≡ answerValues b → a ≡ b
+
+-- The code of what was seen of a frame stands for just that.
+abbrev pub CodeSeen : Type 0
+CodeSeen = (s : Seen) → seenBy (codeOf s) ≡ s

@@ -3,5 +3,7 @@ pub mod Symbols
 pub mod Table
 pub mod Runs
 pub mod Lock
+pub mod Codes
+pub mod Inner
 pub mod Claims
 pub mod Cards

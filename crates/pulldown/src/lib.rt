@@ -10,12 +10,15 @@
 use plane::refusal;
 ghost use mathlib.Core.Path.{_≡_};
 ghost use mathlib.Core.Bool.{cond};
-ghost use Prim.Native.Nat.{_+_, _-_, _<_, _≤_, min, max};
+ghost use Prim.Native.Nat.{_+_, _-_, _%_, _<_, _≤_, min, max};
 ghost use lib.Dec.{ltb};
-ghost use Rattle.laws.specs.Refusal.{whenDone};
+ghost use lib.ListN.{length};
+ghost use Rattle.laws.specs.Refusal.{whenDone, written};
 ghost use Rattle.pulldown.specs.Symbols.{symbolOf, symbolNumber, sameSymbol, oneIf};
 ghost use Rattle.pulldown.specs.Runs.{frameOf, stepOf, stillOrExpected, agrees, contradicts, cadenceBy, foretold};
 ghost use Rattle.pulldown.specs.Lock.{answerNo, answerValues, symbolAt, window, candidateOf, lockedBy, stillsAfter, withSymbol, withoutSymbol, advanceOf, freshLock, lockedOf, pushNo, pushCadence, pushLock, predictNo, predictCadence};
+ghost use Rattle.pulldown.specs.Codes.{codeOf, seenBy, cadencesOf, codesNo};
+ghost use Rattle.pulldown.specs.Inner.{lockBy, forgetful};
 
 // A field moved where this part of its blocks is busy, or more, and never with fewer than so many.
 const MOVING_PART: u64 = 128;
@@ -30,6 +33,9 @@ const QUIET_MOST: u64 = 1;
 
 // Three times the pattern: twice to judge by, and once more so that this does not grow old at once.
 const WINDOW: usize = 15;
+
+// Two repeats of either field and four moved frames.
+const LEAST_HELD: usize = 8;
 
 // So many stills in a row end a lock: an edit may lie among them.
 const MOST_STILL: usize = 12;
@@ -444,4 +450,116 @@ impl Lock {
         let at = smaller(self.taken, MOST_FRAMES) + ahead;
         Answer::Gave(foretell(self.phase, self.since, at))
     }
+}
+
+// ---- frames by their codes
+
+// The number of a frame's symbol, and 4 for a frame that cannot be compared.
+pub fn code_of(seen: Seen) -> u8
+    ensures { λ r. ⌜ r ≡ codeOf seen ⌝ }
+{
+    match seen {
+        Seen::NotComparable => 4,
+        Seen::Symbol(symbol) => number_of(symbol),
+    }
+}
+
+// What a lock holds beside its ring and the number of frames, by which cadences are told: the frame at
+// which the phase was locked is not among it.
+struct Course {
+    next: usize,
+    held: usize,
+    phase: u8,
+    stills: usize,
+}
+
+fn place_after(place: usize) -> usize
+    requires { ⌜ place < 15 ⌝ }
+    ensures { λ r. ⌜ (r ≡ (place + 1) % 15) × (r < 15) ⌝ }
+{
+    if place < WINDOW - 1 { place + 1 } else { 0 }
+}
+
+fn phase_unless(broken: bool, phase: u8) -> u8
+    ensures { λ r. ⌜ r ≡ cond broken 5 phase ⌝ }
+{
+    if broken { NO_PHASE } else { phase }
+}
+
+// The same as `locked_by`, and sooner where the frames are too few for the repeats and moves that a
+// phase asks.
+fn locked_among(ring: &[u8; 15], place: usize, n: u64, held: usize) -> u8
+    requires { ⌜ (place < 15) × (held ≤ 15) ⌝ }
+    ensures { λ r. ⌜ r ≡ lockedBy (window (now (ring .entry)) place n held) n ⌝ }
+{
+    if held < LEAST_HELD {
+        NO_PHASE
+    } else {
+        locked_by(ring, place, n, held)
+    }
+}
+
+// Takes frame n. The ring stays where it lies, and where a phase is held no other is looked for.
+fn take_code(ring: &mut [u8; 15], course: Course, n: u64, code: u8) -> Course
+    requires { ⌜ (course .next < 15) × (n < 4000000000) ⌝ }
+    ensures { λ r. ⌜ (lockBy (now (ring .exit)) r (n + 1) ≡ forgetful (advanceOf (lockBy (now (ring .entry)) course n) (seenBy code))) × (r .next < 15) ⌝ }
+{
+    if 3 < code {
+        return Course {
+            next: course.next,
+            held: 0,
+            phase: NO_PHASE,
+            stills: 0,
+        };
+    }
+    let symbol = symbol_of(code);
+    let place = course.next;
+    ring[place] = code;
+    let next = place_after(place);
+    let held = one_more(course.held, WINDOW);
+    let stills = stills_after(course.stills, symbol);
+    let left = phase_left(stills, course.phase);
+    if left < NO_PHASE {
+        let broken = contradicts(left, n, symbol);
+        let kept = held_after(broken, held);
+        return Course {
+            next: next,
+            held: kept,
+            phase: phase_unless(broken, left),
+            stills: stills,
+        };
+    }
+    Course {
+        next: next,
+        held: held,
+        phase: locked_among(ring, place, n, held),
+        stills: stills,
+    }
+}
+
+// Frames by what was seen of each, as a code: 0 to 3 for a symbol, any other for a frame that cannot be
+// compared. Each code gives place to its frame's cadence, from a fresh lock: 0 None, 1 Whole, 2 Drop,
+// 3 Spanning. Number 9.
+pub fn cadences_of(codes: &mut [u8]) -> u8
+    ensures { λ r. ⌜ r ≡ codesNo (length (now (codes .entry))) ⌝ }
+    ensures { λ r. ⌜ now (codes .exit) ≡ written r (cadencesOf (now (codes .entry))) (now (codes .entry)) ⌝ }
+{
+    if 4000000000 < codes.len() {
+        return refusal::TOO_MANY_FRAMES;
+    }
+    let mut ring = [0u8; 15];
+    let mut course = Course {
+        next: 0,
+        held: 0,
+        phase: NO_PHASE,
+        stills: 0,
+    };
+    let mut k = 0;
+    while k < codes.len() {
+        let taken = take_code(&mut ring, course, k as u64, codes[k]);
+        codes[k] = cadence_by(taken.phase, k as u64).number();
+        course = taken;
+        k += 1;
+    }
+    0
 }

@@ -71,7 +71,7 @@ fn led_by(last: Chosen, first: Parity) -> bool
 }
 
 // What counts tell of a frame that comes after one led by `last`.
-fn seen_measured(last: Chosen, first: Parity, measured: Measured) -> Seen
+pub fn seen_measured(last: Chosen, first: Parity, measured: Measured) -> Seen
     ensures { λ r. ⌜ r ≡ seenMeasured last first measured ⌝ }
 {
     match measured {
