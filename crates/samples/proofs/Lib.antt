@@ -1,0 +1,6 @@
+-- The walks' common parts. The borrow checker covers no function over a struct that holds a reference, so each function's code is walked
+-- by hand. Assumes nothing.
+pub mod Walk
+pub mod Held
+pub mod Number
+pub mod Asked
