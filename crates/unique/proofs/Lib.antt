@@ -1,0 +1,27 @@
+-- The law, and for each crate a lemma for each of its public functions. Assumes nothing.
+pub mod Law
+pub mod Copy
+pub mod Field
+pub mod Float
+pub mod Plane
+pub mod Samples
+pub mod Comb
+pub mod Filter
+pub mod Scanline
+pub mod Fill
+pub mod Colour
+pub mod Picture
+pub mod Block
+pub mod Pulldown
+pub mod Telecine
+pub mod Weave
+pub mod Weaver
+pub mod Readback
+pub mod Packed
+pub mod Entry
+pub mod Reel
+pub mod Listing
+pub mod Desk
+pub mod Picturedesk
+pub mod Filmdesk
+pub mod Weavedesk
