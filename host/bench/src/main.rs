@@ -3,96 +3,368 @@
 //!
 //!     bench                   every call
 //!     bench sample            these calls
+//!     bench --grow            every call at four sizes
+//!     bench --grow sample     these calls at four sizes
 //!
-//! A new call is one more [`Contest`] in `contests`.
+//! A new call is one more [`Contest`] in `contests`, and four in `growth`.
 
 use std::env;
-use std::hint::black_box;
-use std::rc::Rc;
+use std::fmt;
 use std::time::{Duration, Instant};
 
-use desk::{Conversion, PlaneNumbers};
+use desk::PlaneNumbers;
 use differ::random::Random;
-use differ::runs;
 use oracle::mediadecoder::video::Plane;
-use oracle::video::filter::{Planes, Rows, Samples};
-use oracle::video::{Deinterlace, colour};
 
 mod films;
 mod pictures;
+mod planes;
+mod values;
 mod weaves;
 
-/// Rounds of each side, in turn, so that a busy machine slows both.
-const ROUNDS: usize = 40;
+// The original once more, in this crate: only here can the compiler inline it
+// into a loop that is timed. The crate `oracle` is the same text.
+#[allow(dead_code)]
+#[path = "../../oracle/src/decode.rs"]
+mod decode;
+#[allow(dead_code)]
+#[path = "../../oracle/src/video.rs"]
+mod video;
 
-/// After so long a contest has no further round, but at least `FEWEST`; after
-/// so much longer, not even those.
-const ENOUGH: Duration = Duration::from_secs(4);
-const FEWEST: usize = 5;
-const TOO_LONG: Duration = Duration::from_secs(12);
+/// How long a contest goes on.
+struct Patience {
+    /// Rounds of each side, in turn, so that a busy machine hinders both.
+    rounds: usize,
+    /// After so long there is no further round, but at least `fewest`; after so
+    /// much longer, not even those.
+    enough: Duration,
+    fewest: usize,
+    too_long: Duration,
+}
+
+const TABLE: Patience = Patience {
+    rounds: 40,
+    enough: Duration::from_secs(4),
+    fewest: 5,
+    too_long: Duration::from_secs(12),
+};
+
+const GROWTH: Patience = Patience {
+    rounds: 20,
+    enough: Duration::from_secs(1),
+    fewest: 3,
+    too_long: Duration::from_secs(3),
+};
+
+/// Does the work of a contest once, and says how long it took.
+type Side = Box<dyn FnMut() -> Duration>;
+
+fn side(mut work: impl FnMut() + 'static) -> Side {
+    Box::new(move || timed(&mut work))
+}
+
+/// The same call so many times.
+fn again(calls: u64, mut call: impl FnMut() + 'static) -> Side {
+    side(move || (0..calls).for_each(|_| call()))
+}
+
+fn timed(work: impl FnOnce()) -> Duration {
+    let start = clock();
+    work();
+    clock() - start
+}
+
+/// The processor time of this thread. What other programs do meanwhile does not
+/// count, which would otherwise be more the longer a round takes, and look like
+/// growth.
+fn clock() -> Duration {
+    #[repr(C)]
+    struct Time {
+        seconds: u64,
+        nanoseconds: u64,
+    }
+    unsafe extern "C" {
+        fn clock_gettime(clock: i32, time: *mut Time) -> i32;
+    }
+    /// CLOCK_THREAD_CPUTIME_ID of Linux, for which host/ is built.
+    const OF_THIS_THREAD: i32 = 3;
+
+    let mut time = Time {
+        seconds: 0,
+        nanoseconds: 0,
+    };
+    // SAFETY: the call writes one such record, two numbers of 64 bits, and the
+    // reference is ours alone.
+    let number = unsafe { clock_gettime(OF_THIS_THREAD, &mut time) };
+    assert_eq!(number, 0, "Linux has this clock");
+    Duration::from_secs(time.seconds) + Duration::from_nanos(time.nanoseconds)
+}
+
+struct Sides {
+    rattle: Side,
+    /// None where the original does nothing like it.
+    rust: Option<Side>,
+    /// The Rust where the compiler may inline it, for calls on one value.
+    inlined: Option<Side>,
+}
 
 struct Contest {
     call: &'static str,
-    input: &'static str,
-    rattle: Box<dyn FnMut()>,
-    rust: Box<dyn FnMut()>,
+    input: String,
+    /// What the original does in its place, where it has no such call.
+    beside: &'static str,
+    /// What the work of a side is counted in, and how much that is.
+    unit: &'static str,
+    units: u64,
+    /// Made when its turn comes, so that one contest's memory is not another's
+    /// burden.
+    sides: Box<dyn FnOnce() -> Sides>,
 }
+
+impl Contest {
+    fn new(
+        call: &'static str,
+        input: String,
+        (units, unit): (u64, &'static str),
+        sides: impl FnOnce() -> Sides + 'static,
+    ) -> Self {
+        Self {
+            call,
+            input,
+            beside: "",
+            unit,
+            units,
+            sides: Box::new(sides),
+        }
+    }
+
+    fn beside(self, beside: &'static str) -> Self {
+        Self { beside, ..self }
+    }
+
+    /// The size alone, where sizes are all that differs.
+    fn at_size(self, size: impl fmt::Display) -> Self {
+        let input = size.to_string();
+        Self { input, ..self }
+    }
+
+    fn best(self, patience: &Patience) -> Best {
+        let Sides {
+            mut rattle,
+            mut rust,
+            mut inlined,
+        } = (self.sides)();
+        let mut best = Best {
+            rattle: Duration::MAX,
+            rust: rust.as_ref().map(|_| Duration::MAX),
+            inlined: inlined.as_ref().map(|_| Duration::MAX),
+        };
+        let round = |side: &mut Option<Side>, best: &mut Option<Duration>| {
+            if let (Some(side), Some(best)) = (side, best) {
+                *best = side().min(*best);
+            }
+        };
+        let start = Instant::now();
+        for at in 0..patience.rounds {
+            let long = start.elapsed();
+            let enough = at >= patience.fewest && long > patience.enough;
+            if enough || at >= 1 && long > patience.too_long {
+                break;
+            }
+            best.rattle = rattle().min(best.rattle);
+            round(&mut rust, &mut best.rust);
+            round(&mut inlined, &mut best.inlined);
+        }
+        best
+    }
+}
+
+/// The best round of each side.
+struct Best {
+    rattle: Duration,
+    rust: Option<Duration>,
+    inlined: Option<Duration>,
+}
+
+impl Best {
+    fn ratio(&self, other: Option<Duration>) -> String {
+        let ratio = |other: Duration| self.rattle.as_secs_f64() / other.as_secs_f64();
+        other.map_or("-".into(), |other| format!("{:.3}", ratio(other)))
+    }
+}
+
+fn shown(time: Option<Duration>) -> String {
+    time.map_or("-".into(), |time| format!("{time:.1?}"))
+}
+
+/// Nanoseconds a unit.
+fn each(time: Option<Duration>, units: u64) -> String {
+    let each = |time: Duration| time.as_secs_f64() * 1e9 / units as f64;
+    time.map_or("-".into(), |time| format!("{:.2}", each(time)))
+}
+
+/// The size of a picture, or of the one plane that is looked at.
+#[derive(Debug, Clone, Copy)]
+struct Size {
+    width: u32,
+    height: u32,
+}
+
+impl Size {
+    const fn new(width: u32, height: u32) -> Self {
+        Self { width, height }
+    }
+
+    fn pixels(self) -> u64 {
+        u64::from(self.width) * u64::from(self.height)
+    }
+}
+
+impl fmt::Display for Size {
+    fn fmt(&self, f: &mut fmt::Formatter<'_>) -> fmt::Result {
+        write!(f, "{}x{}", self.width, self.height)
+    }
+}
+
+const FULL: Size = Size::new(1920, 1080);
+
+/// How the samples of a plane lie: 8 bits, or the luma of a biplanar frame of
+/// 10 bits.
+const PLAIN: (u32, u32) = (8, 0);
+const SHIFTED: (u32, u32) = (10, 1);
 
 fn contests() -> Vec<Contest> {
-    vec![
-        Contest {
-            call: "first_field",
-            input: "all 65536 inputs",
-            rattle: Box::new(|| every_pair(desk::first_field)),
-            rust: Box::new(|| every_pair(runs::first_field::by_rust)),
-        },
-        comb("1920x1080, 8 bits", 8),
-        comb("1920x1080, 10 bits", 10),
-        comb("1920x1080, 16 bits", 16),
-        comb_rgba("1920x1080"),
-        at("320x240, 8 bits", 8, 0),
-        at("320x240, 10 bits, luma", 10, 1),
-        sample("160x120, 8 bits, Yadif", 8, 0),
-        sample("160x120, 10 b., luma, Yadif", 10, 1),
-        whole("1920x1080, 8 bits, Bob", 1, 8, 0),
-        whole("1920x1080, 8 b., luma, Bob", 1, 8, 1),
-        whole("1920x1080, 10 bits, Bob", 1, 10, 0),
-        whole("1920x1080, 10 b., luma, Bob", 1, 10, 1),
-        whole("1920x1080, 8 bits, Yadif", 2, 8, 0),
-        whole("1920x1080, 10 b., luma, Yadif", 2, 10, 1),
-        whole("1920x1080, 8 bits, Bwdif", 3, 8, 0),
-        whole("1920x1080, 10 b., luma, Bwdif", 3, 10, 1),
-        to_rgb("100000 triples"),
-        quantise("1000000 floats"),
-        pictures::picture("1920x1080, 8 bits, Weave", 0, 8, false),
-        pictures::picture("1920x1080, 10 b., bipl., Weave", 0, 10, true),
-        pictures::picture("1920x1080, 8 bits, Bob", 1, 8, false),
-        pictures::picture("1920x1080, 10 b., bipl., Bob", 1, 10, true),
-        pictures::picture("1920x1080, 8 bits, Yadif", 2, 8, false),
-        pictures::picture("1920x1080, 10 b., bipl., Yadif", 2, 10, true),
-        pictures::picture("1920x1080, 8 bits, Bwdif", 3, 8, false),
-        pictures::picture("1920x1080, 10 b., bipl., Bwdif", 3, 10, true),
-        films::push("1920x1080, 8 bits, two", 8),
-        films::push("1920x1080, 10 bits, two", 10),
-        films::measured("1000000 measured entries", 1_000_000),
-        weaves::weave("1920x1080, 8 bits", 8),
-        weaves::weave("1920x1080, 10 bits", 10),
-        weaves::readback("1920x1080, 8 bits, 3 planes", 8, 3),
-        weaves::readback("1920x1080, 8 bits, 2 planes", 8, 2),
-        weaves::readback("1920x1080, 10 bits, 3 planes", 10, 3),
-        weaves::readback("1920x1080, 10 bits, 2 planes", 10, 2),
-    ]
+    let at = Size::new(320, 240);
+    let sample = Size::new(160, 120);
+    let (bob, yadif, bwdif) = (1, 2, 3);
+    let mut all = vec![
+        values::first_field(60_000),
+        planes::comb(FULL, 8),
+        planes::comb(FULL, 10),
+        planes::comb(FULL, 16),
+        planes::comb_rgba(FULL),
+    ];
+    for samples in [PLAIN, SHIFTED] {
+        all.push(values::code(at, at.pixels(), samples));
+    }
+    for samples in [PLAIN, SHIFTED] {
+        all.push(values::at(at, at.pixels(), samples));
+    }
+    for samples in [PLAIN, SHIFTED] {
+        all.push(values::edge(sample, sample.pixels(), samples));
+    }
+    for samples in [PLAIN, SHIFTED] {
+        all.push(values::sample(sample, sample.pixels(), samples));
+    }
+    all.extend([
+        planes::whole(FULL, bob, (8, 0)),
+        planes::whole(FULL, bob, (8, 1)),
+        planes::whole(FULL, bob, (10, 0)),
+        planes::whole(FULL, bob, (10, 1)),
+        planes::whole(FULL, yadif, PLAIN),
+        planes::whole(FULL, yadif, SHIFTED),
+        planes::whole(FULL, bwdif, PLAIN),
+        planes::whole(FULL, bwdif, SHIFTED),
+        values::to_rgb(100_000),
+        values::quantise(1_000_000),
+        values::luma(100_000),
+    ]);
+    for quality in 0..4 {
+        all.push(pictures::picture(FULL, quality, 8, false));
+        all.push(pictures::picture(FULL, quality, 10, true));
+    }
+    all.extend([
+        films::busy(FULL, 8),
+        films::busy(FULL, 10),
+        films::push(FULL, 8),
+        films::push(FULL, 10),
+        films::fresh(100_000),
+        films::reset(100_000),
+        films::locked(1_000, 100_000),
+        films::predict(1_000, 100_000),
+        films::push_measured(100_000),
+        films::cadences(1_000_000),
+        weaves::weave(FULL, 8),
+        weaves::weave(FULL, 10),
+        weaves::line_number(FULL, 100_000),
+        weaves::woven_line(FULL, 8),
+        weaves::woven_line(FULL, 10),
+        values::woven(100_000),
+        weaves::readback(FULL, 8, 3),
+        weaves::readback(FULL, 8, 2),
+        weaves::readback(FULL, 10, 3),
+        weaves::readback(FULL, 10, 2),
+        weaves::weaver_new(100_000),
+        weaves::weaver_clear(100_000),
+        weaves::weaver_push(FULL, 8, false),
+        weaves::weaver_push(FULL, 8, true),
+        weaves::weaver_push(FULL, 10, false),
+        weaves::weaver_push(FULL, 10, true),
+    ]);
+    all
 }
 
-const WIDTH: u32 = 1920;
-const HEIGHT: u32 = 1080;
+const SIZES: [Size; 4] = [
+    Size::new(160, 120),
+    Size::new(320, 240),
+    Size::new(640, 480),
+    Size::new(1280, 720),
+];
+
+/// Each call at four sizes: of the picture or the plane; for calls that have
+/// none, of the history, of a number that is asked for, or of the number of
+/// calls.
+fn growth() -> Vec<Contest> {
+    let mut all = Vec::new();
+    let mut sizes = |of: &dyn Fn(Size) -> Contest| {
+        all.extend(SIZES.map(|size| of(size).at_size(size)));
+    };
+    // As many reads as the smallest plane has samples, of each plane.
+    let reads = SIZES[0].pixels();
+    sizes(&|size| planes::comb(size, 8));
+    sizes(&|size| planes::comb_rgba(size));
+    sizes(&|size| values::code(size, reads, PLAIN));
+    sizes(&|size| values::at(size, reads, PLAIN));
+    sizes(&|size| values::edge(size, reads, PLAIN));
+    sizes(&|size| values::sample(size, reads, PLAIN));
+    sizes(&|size| planes::whole(size, 2, PLAIN));
+    sizes(&|size| pictures::picture(size, 2, 8, false));
+    sizes(&|size| films::busy(size, 8));
+    sizes(&|size| films::push(size, 8));
+    sizes(&|size| weaves::weave(size, 8));
+    sizes(&|size| weaves::line_number(size, 10_000));
+    sizes(&|size| weaves::woven_line(size, 8));
+    sizes(&|size| weaves::readback(size, 8, 2));
+    sizes(&|size| weaves::weaver_push(size, 8, false));
+
+    let mut counts = |counts: [u64; 4], what: &str, of: &dyn Fn(u64) -> Contest| {
+        all.extend(counts.map(|count| of(count).at_size(format!("{count} {what}"))));
+    };
+    let calls = [1_000, 4_000, 16_000, 64_000];
+    counts(calls, "calls", &values::first_field);
+    counts(calls, "calls", &values::to_rgb);
+    counts(calls, "calls", &values::quantise);
+    counts(calls, "calls", &values::luma);
+    counts(calls, "calls", &values::woven);
+    counts(calls, "calls", &films::fresh);
+    counts(calls, "calls", &films::reset);
+    counts([10, 100, 1_000, 10_000], "frames before", &|frames| {
+        films::locked(frames, 10_000)
+    });
+    counts([10, 1_000, 100_000, 1_000_000], "ahead", &|ahead| {
+        films::predict(ahead, 10_000)
+    });
+    counts(calls, "frames", &films::push_measured);
+    let entries = [1_000, 10_000, 100_000, 1_000_000];
+    counts(entries, "entries", &films::cadences);
+    counts(calls, "calls", &weaves::weaver_new);
+    counts(calls, "calls", &weaves::weaver_clear);
+    all
+}
 
 /// A plane of noise without padding, and its shape by numbers.
-fn plane(width: u32, height: u32, depth: u32, layout: u32) -> (Plane, PlaneNumbers) {
-    plane_of(1, width, height, depth, layout)
-}
-
-fn plane_of(seed: u64, width: u32, height: u32, depth: u32, layout: u32) -> (Plane, PlaneNumbers) {
+fn plane_of(seed: u64, size: Size, (depth, layout): (u32, u32)) -> (Plane, PlaneNumbers) {
+    let Size { width, height } = size;
     let stride = if depth > 8 { 2 * width } else { width };
     let plane = Plane {
         data: Random::new(seed).bytes((stride * height) as usize),
@@ -110,229 +382,55 @@ fn plane_of(seed: u64, width: u32, height: u32, depth: u32, layout: u32) -> (Pla
     (plane, shape)
 }
 
-fn comb(input: &'static str, depth: u32) -> Contest {
-    let (plane, shape) = plane(WIDTH, HEIGHT, depth, 0);
-    let plane = Rc::new(plane);
-    let lent = plane.clone();
-    Contest {
-        call: "comb",
-        input,
-        rattle: Box::new(move || {
-            let lent = black_box(&lent.data[..]);
-            let mut total = 0;
-            let number = desk::comb(lent, WIDTH, HEIGHT, depth, shape.stride, &mut total);
-            assert_eq!(number, 0, "an input of the benchmark is refused");
-            black_box(total);
-        }),
-        rust: Box::new(move || {
-            black_box(runs::comb::by_rust(black_box(&plane), depth as u8));
-        }),
+fn named((depth, layout): (u32, u32)) -> String {
+    let luma = if layout == 1 { ", luma" } else { "" };
+    format!("{depth} bits{luma}")
+}
+
+/// What a call of the desk gives for an input that it must take.
+fn taken(number: u8) {
+    assert_eq!(number, 0, "an input of the benchmark is refused");
+}
+
+fn print_table(contests: impl Iterator<Item = Contest>) {
+    println!(
+        "{:<22} {:<32} {:>9} {:>9} {:>7} {:>9} {:>7}",
+        "call", "input", "Rattle", "Rust", "ratio", "inlined", "ratio"
+    );
+    for contest in contests {
+        let (call, beside) = (contest.call, contest.beside);
+        let input = contest.input.clone();
+        let best = contest.best(&TABLE);
+        let line = format!(
+            "{call:<22} {input:<32} {:>9} {:>9} {:>7} {:>9} {:>7}  {beside}",
+            shown(Some(best.rattle)),
+            shown(best.rust),
+            best.ratio(best.rust),
+            shown(best.inlined),
+            best.ratio(best.inlined),
+        );
+        println!("{}", line.trim_end());
     }
 }
 
-fn comb_rgba(input: &'static str) -> Contest {
-    let (width, height) = (WIDTH as usize, HEIGHT as usize);
-    let picture: Rc<[u8]> = Random::new(1).bytes(width * height * 4).into();
-    let lent = picture.clone();
-    Contest {
-        call: "comb_rgba",
-        input,
-        rattle: Box::new(move || {
-            let mut total = 0;
-            let number = desk::comb_rgba(black_box(&lent), WIDTH, HEIGHT, &mut total);
-            assert_eq!(number, 0, "an input of the benchmark is refused");
-            black_box(total);
-        }),
-        rust: Box::new(move || {
-            let picture = black_box(&picture[..]);
-            black_box(runs::comb_rgba::by_rust(picture, width, height));
-        }),
+fn print_growth(contests: impl Iterator<Item = Contest>) {
+    println!(
+        "{:<22} {:<20} {:>9} {:>9} {:>7} {:>10} {:>10}",
+        "call", "size", "Rattle", "Rust", "ratio", "Rattle, ns", "Rust, ns"
+    );
+    for contest in contests {
+        let (call, unit, units) = (contest.call, contest.unit, contest.units);
+        let input = contest.input.clone();
+        let best = contest.best(&GROWTH);
+        println!(
+            "{call:<22} {input:<20} {:>9} {:>9} {:>7} {:>10} {:>10}  per {unit}",
+            shown(Some(best.rattle)),
+            shown(best.rust),
+            best.ratio(best.rust),
+            each(Some(best.rattle), units),
+            each(best.rust, units),
+        );
     }
-}
-
-/// Every sample of a plane. The desk judges the shape at each call; the Rust
-/// has no such judgement, and its `Samples` is made once.
-fn at(input: &'static str, depth: u32, layout: u32) -> Contest {
-    let (plane, shape) = plane(320, 240, depth, layout);
-    let places = || (0..240).flat_map(|y| (0..320).map(move |x| (x, y)));
-    let plane = Rc::new(plane);
-    let lent = plane.clone();
-    Contest {
-        call: "at",
-        input,
-        rattle: Box::new(move || {
-            let lent = black_box(&lent.data[..]);
-            let mut value = 0.0;
-            for (x, y) in places() {
-                let number = desk::at(lent, shape, black_box(x), black_box(y), &mut value);
-                assert_eq!(number, 0, "an input of the benchmark is refused");
-                black_box(value);
-            }
-        }),
-        rust: Box::new(move || {
-            let samples = black_box(samples(&plane, depth, layout));
-            for (x, y) in places() {
-                black_box(runs::at::by_rust(&samples, black_box(x), black_box(y)));
-            }
-        }),
-    }
-}
-
-/// The Rust's view of a plane, planar or the luma of a biplanar frame.
-fn samples(plane: &Plane, depth: u32, layout: u32) -> Samples<'_> {
-    let depth = depth as u8;
-    match layout {
-        0 => Samples::new(plane, depth),
-        _ => Planes::biplanar(plane, plane, depth).y,
-    }
-}
-
-/// Every place of three planes, by Yadif, of the first field. As for `at`, the
-/// desk judges the shapes at each call.
-fn sample(input: &'static str, depth: u32, layout: u32) -> Contest {
-    let three = [1, 2, 3].map(|seed| plane_of(seed, 160, 120, depth, layout));
-    let shape = three[0].1;
-    let planes = Rc::new(three.map(|(plane, _)| plane));
-    let places = || (0..120).flat_map(|y| (0..160).map(move |x| (x, y)));
-    let lent = planes.clone();
-    Contest {
-        call: "sample",
-        input,
-        rattle: Box::new(move || {
-            let [before, cur, after] = lent.each_ref().map(|plane| black_box(&plane.data[..]));
-            let mut value = 0.0;
-            for (x, y) in places() {
-                let (x, y) = (black_box(x), black_box(y));
-                let number = desk::sample(
-                    2, before, shape, cur, shape, after, shape, 0, 2, x, y, &mut value,
-                );
-                assert_eq!(number, 0, "an input of the benchmark is refused");
-                black_box(value);
-            }
-        }),
-        rust: Box::new(move || {
-            let three = planes.each_ref().map(|plane| samples(plane, depth, layout));
-            let three = black_box(three);
-            for (x, y) in places() {
-                let (x, y) = (black_box(x), black_box(y));
-                let yadif = Deinterlace::Yadif;
-                black_box(runs::sample::by_rust(yadif, &three, Rows::field(0), x, y));
-            }
-        }),
-    }
-}
-
-/// All of three planes, of the first field. The Rust makes its output anew.
-fn whole(input: &'static str, quality: u8, depth: u32, layout: u32) -> Contest {
-    let three = [1, 2, 3].map(|seed| plane_of(seed, WIDTH, HEIGHT, depth, layout));
-    let shape = three[0].1;
-    let planes = Rc::new(three.map(|(plane, _)| plane));
-    let lent = planes.clone();
-    let mut out = vec![0.0; (WIDTH * HEIGHT) as usize];
-    Contest {
-        call: "plane",
-        input,
-        rattle: Box::new(move || {
-            let [before, cur, after] = lent.each_ref().map(|plane| black_box(&plane.data[..]));
-            let number = desk::plane(
-                quality, 0, before, shape, cur, shape, after, shape, &mut out,
-            );
-            assert_eq!(number, 0, "an input of the benchmark is refused");
-            black_box(&mut out);
-        }),
-        rust: Box::new(move || {
-            let quality = match quality {
-                1 => Deinterlace::Bob,
-                2 => Deinterlace::Yadif,
-                _ => Deinterlace::Bwdif,
-            };
-            let three = planes.each_ref().map(|plane| samples(plane, depth, layout));
-            black_box(runs::plane::by_rust(quality, &black_box(three), 0));
-        }),
-    }
-}
-
-fn to_rgb(input: &'static str) -> Contest {
-    let made = colour::Conversion::new(colour::Matrix::Bt709, 10, true);
-    let conversion = Conversion {
-        luma_offset: made.luma_offset,
-        luma_gain: made.luma_gain,
-        chroma_offset: made.chroma_offset,
-        chroma_gain: made.chroma_gain,
-        kr: made.kr,
-        kb: made.kb,
-        luma_lift: made.luma_lift,
-        chroma_cos: made.chroma_cos,
-        chroma_sin: made.chroma_sin,
-    };
-    let mut random = Random::new(1);
-    let mut sample = || random.below(1024) as f32 / 1023.0;
-    let triples: Rc<[[f32; 3]]> = (0..100_000)
-        .map(|_| [sample(), sample(), sample()])
-        .collect();
-    let given = triples.clone();
-    Contest {
-        call: "to_rgb",
-        input,
-        rattle: Box::new(move || {
-            let (mut red, mut green, mut blue) = (0.0, 0.0, 0.0);
-            for &[y, cb, cr] in black_box(&given[..]) {
-                let number = desk::to_rgb(
-                    black_box(conversion),
-                    y,
-                    cb,
-                    cr,
-                    &mut red,
-                    &mut green,
-                    &mut blue,
-                );
-                assert_eq!(number, 0, "an input of the benchmark is refused");
-                black_box([red, green, blue]);
-            }
-        }),
-        rust: Box::new(move || {
-            for &[y, cb, cr] in black_box(&triples[..]) {
-                black_box(runs::to_rgb::by_rust(black_box(&made), y, cb, cr));
-            }
-        }),
-    }
-}
-
-/// From a little below 0 to a little above 1, as colours come out.
-fn quantise(input: &'static str) -> Contest {
-    let mut random = Random::new(1);
-    let floats: Rc<[f32]> = (0..1_000_000)
-        .map(|_| random.below(1_200_001) as f32 / 1_000_000.0 - 0.1)
-        .collect();
-    let given = floats.clone();
-    Contest {
-        call: "quantise",
-        input,
-        rattle: Box::new(move || every_float(&given, desk::quantise)),
-        rust: Box::new(move || every_float(&floats, runs::quantise::by_rust)),
-    }
-}
-
-fn every_float(floats: &[f32], call: impl Fn(f32) -> u8) {
-    for value in black_box(floats) {
-        black_box(call(*value));
-    }
-}
-
-/// Generic over the call, so that neither side is called through a pointer.
-fn every_pair(call: impl Fn(u8, u8, &mut u8) -> u8) {
-    let mut parity = 0;
-    for structure in 0..=u8::MAX {
-        for top_field_first in 0..=u8::MAX {
-            let number = call(
-                black_box(structure),
-                black_box(top_field_first),
-                black_box(&mut parity),
-            );
-            black_box(number);
-        }
-    }
-    black_box(parity);
 }
 
 fn main() {
@@ -345,40 +443,32 @@ fn main() {
              since the emulator costs the two sides different amounts."
         );
     }
-    let calls: Vec<String> = env::args().skip(1).collect();
-    println!(
-        "{:<12} {:<30} {:>12} {:>12} {:>8}",
-        "call", "input", "Rattle", "Rust", "ratio"
-    );
-    for mut contest in contests() {
-        if !calls.is_empty() && calls.iter().all(|call| call != contest.call) {
-            continue;
+    let (flags, calls): (Vec<String>, Vec<String>) =
+        env::args().skip(1).partition(|word| word.starts_with('-'));
+    let grow = match &flags[..] {
+        [] => false,
+        [flag] if flag == "--grow" => true,
+        _ => {
+            eprintln!("bench: {flags:?}: expected no flag, or --grow");
+            std::process::exit(2);
         }
-        let (mut rattle, mut rust) = (Duration::MAX, Duration::MAX);
-        let start = Instant::now();
-        for round in 0..ROUNDS {
-            let long = start.elapsed();
-            if round >= FEWEST && long > ENOUGH || round >= 1 && long > TOO_LONG {
-                break;
-            }
-            rattle = rattle.min(timed(&mut contest.rattle));
-            rust = rust.min(timed(&mut contest.rust));
-        }
-        println!(
-            "{:<12} {:<30} {:>12} {:>12} {:>8.3}",
-            contest.call,
-            contest.input,
-            format!("{rattle:.1?}"),
-            format!("{rust:.1?}"),
-            rattle.as_secs_f64() / rust.as_secs_f64()
-        );
+    };
+    let contests = if grow { growth() } else { contests() };
+    if let Some(call) = calls
+        .iter()
+        .find(|call| contests.iter().all(|contest| contest.call != **call))
+    {
+        eprintln!("bench: there is no call {call}");
+        std::process::exit(2);
     }
-}
-
-fn timed(side: &mut dyn FnMut()) -> Duration {
-    let start = Instant::now();
-    side();
-    start.elapsed()
+    let chosen = contests
+        .into_iter()
+        .filter(|contest| calls.is_empty() || calls.iter().any(|call| call == contest.call));
+    if grow {
+        print_growth(chosen);
+    } else {
+        print_table(chosen);
+    }
 }
 
 /// Whether this program runs under an emulator. Qemu says so itself, also for
@@ -410,4 +500,46 @@ fn is_qemu() -> bool {
 #[cfg(not(target_arch = "x86_64"))]
 fn is_qemu() -> bool {
     false
+}
+
+#[cfg(test)]
+mod tests {
+    use std::collections::BTreeMap;
+    use std::fs;
+    use std::path::Path;
+
+    use super::{Contest, contests, growth};
+
+    /// The exports, as host/desk declares them.
+    fn exports() -> Vec<String> {
+        let folder = Path::new(env!("CARGO_MANIFEST_DIR")).join("../desk/src");
+        let mut found = Vec::new();
+        for file in fs::read_dir(folder).expect("host/desk has a src") {
+            let path = file.expect("a file of host/desk").path();
+            let text = fs::read_to_string(path).expect("a source of host/desk");
+            let names = text.split("fn desk_").skip(1);
+            found.extend(names.filter_map(|rest| Some(rest.split_once('(')?.0.to_owned())));
+        }
+        found.sort();
+        found
+    }
+
+    fn timed(contests: Vec<Contest>) -> BTreeMap<String, usize> {
+        let mut found = BTreeMap::new();
+        for contest in contests {
+            *found.entry(contest.call.to_owned()).or_default() += 1;
+        }
+        found
+    }
+
+    #[test]
+    fn every_export_is_timed_and_at_four_sizes() {
+        let exports = exports();
+        assert_eq!(exports.len(), 28);
+        let once = timed(contests());
+        assert!(once.keys().eq(&exports), "{once:?}");
+        let grown = timed(growth());
+        assert!(grown.keys().eq(&exports), "{grown:?}");
+        assert!(grown.values().all(|sizes| *sizes == 4), "{grown:?}");
+    }
 }

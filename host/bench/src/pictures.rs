@@ -10,7 +10,7 @@ use oracle::mediadecoder::video::Plane;
 use oracle::video::filter::{Planes, Samples};
 use oracle::video::{Deinterlace, Settings, colour};
 
-use super::{Contest, HEIGHT, WIDTH, plane_of};
+use super::{Contest, Sides, Size, plane_of, side, taken};
 
 /// A frame of noise: three planes, or luma and a plane that chroma shares.
 struct Frame {
@@ -19,12 +19,13 @@ struct Frame {
 }
 
 impl Frame {
-    fn new(seed: u64, depth: u32, biplanar: bool) -> Self {
-        let own = |seed, width, height| plane_of(seed, width, height, depth, 0);
-        let (luma, shape) = own(seed, WIDTH, HEIGHT);
+    fn new(seed: u64, size: Size, depth: u32, biplanar: bool) -> Self {
+        let Size { width, height } = size;
+        let own = |seed, width, height| plane_of(seed, Size { width, height }, (depth, 0));
+        let (luma, shape) = own(seed, width, height);
         if !biplanar {
-            let (cb, half) = own(seed + 10, WIDTH / 2, HEIGHT / 2);
-            let (cr, _) = own(seed + 20, WIDTH / 2, HEIGHT / 2);
+            let (cb, half) = own(seed + 10, width / 2, height / 2);
+            let (cr, _) = own(seed + 20, width / 2, height / 2);
             return Self {
                 planes: vec![luma, cb, cr],
                 shapes: FrameNumbers {
@@ -35,9 +36,9 @@ impl Frame {
             };
         }
         // Its rows hold twice the width, which is the luma's.
-        let (shared, both) = own(seed + 10, WIDTH, HEIGHT / 2);
+        let (shared, both) = own(seed + 10, width, height / 2);
         let half = |layout| PlaneNumbers {
-            width: WIDTH / 2,
+            width: width / 2,
             layout,
             ..both
         };
@@ -70,17 +71,26 @@ impl Frame {
 }
 
 /// The Rust makes its output anew.
-pub fn picture(input: &'static str, quality: u8, depth: u32, biplanar: bool) -> Contest {
+pub fn picture(size: Size, quality: u8, depth: u32, biplanar: bool) -> Contest {
+    let (name, deinterlace) = match quality {
+        0 => ("Weave", Deinterlace::Weave),
+        1 => ("Bob", Deinterlace::Bob),
+        2 => ("Yadif", Deinterlace::Yadif),
+        _ => ("Bwdif", Deinterlace::Bwdif),
+    };
     let settings = Settings {
-        deinterlace: match quality {
-            0 => Deinterlace::Weave,
-            1 => Deinterlace::Bob,
-            2 => Deinterlace::Yadif,
-            _ => Deinterlace::Bwdif,
-        },
+        deinterlace,
         matrix: colour::Matrix::Bt709,
         limited: true,
     };
+    let layout = if biplanar { ", bipl." } else { "" };
+    let input = format!("{size}, {depth} bits{layout}, {name}");
+    Contest::new("picture", input, (size.pixels(), "pixel"), move || {
+        sides(size, quality, settings, depth, biplanar)
+    })
+}
+
+fn sides(size: Size, quality: u8, settings: Settings, depth: u32, biplanar: bool) -> Sides {
     let made = colour::Conversion::new(settings.matrix, depth as u8, settings.limited);
     let conversion = Conversion {
         luma_offset: made.luma_offset,
@@ -99,18 +109,16 @@ pub fn picture(input: &'static str, quality: u8, depth: u32, biplanar: bool) -> 
         earlier: 0,
         later: 1,
     };
-    let frames = Rc::new([1, 2, 3].map(|seed| Frame::new(seed, depth, biplanar)));
+    let frames = Rc::new([1, 2, 3].map(|seed| Frame::new(seed, size, depth, biplanar)));
     let lent = frames.clone();
-    let mut out = vec![0; (WIDTH * HEIGHT * 4) as usize];
-    Contest {
-        call: "picture",
-        input,
-        rattle: Box::new(move || {
+    let mut out = vec![0; 4 * size.pixels() as usize];
+    Sides {
+        rattle: side(move || {
             let [previous, current, following] = &*lent;
             let [previous_luma, previous_cb, previous_cr] = previous.lent();
             let [current_luma, current_cb, current_cr] = current.lent();
             let [following_luma, following_cb, following_cr] = following.lent();
-            let number = desk::picture(
+            taken(desk::picture(
                 quality,
                 output,
                 conversion,
@@ -127,14 +135,14 @@ pub fn picture(input: &'static str, quality: u8, depth: u32, biplanar: bool) -> 
                 following_cb,
                 following_cr,
                 &mut out,
-            );
-            assert_eq!(number, 0, "an input of the benchmark is refused");
+            ));
             black_box(&mut out);
         }),
-        rust: Box::new(move || {
+        rust: Some(side(move || {
             let planes = frames.each_ref().map(|frame| frame.for_rust(depth));
             let output = output_named(output);
             black_box(by_rust(&black_box(planes), depth as u8, &output, settings));
-        }),
+        })),
+        inlined: None,
     }
 }

@@ -1,19 +1,31 @@
-//! Contests of `weave` and `readback`. The Rust makes its output anew.
+//! Fields into frames, by `weave`, a line and the weaver; and `readback`. The
+//! Rust makes its output anew.
 
 use std::hint::black_box;
 use std::rc::Rc;
 
-use desk::{FieldNumbers, LinesNumbers, ReadbackNumbers};
+use desk::{FieldNumbers, LinesNumbers, ReadbackNumbers, WEAVER_BYTES};
 use differ::random::Random;
 use differ::runs;
 use oracle::decode::Readback;
+use oracle::decode::weave::Weaver;
 use oracle::mediadecoder::es::Format;
 use oracle::mediadecoder::video::{Frame, Plane};
 
-use super::{Contest, HEIGHT, WIDTH};
+use super::{Contest, Sides, Size, again, side, taken, timed};
 
 fn bytes_a_sample(depth: u32) -> u32 {
     if depth > 8 { 2 } else { 1 }
+}
+
+/// Lines without padding.
+fn lines(width: u32, height: u32, depth: u32) -> LinesNumbers {
+    LinesNumbers {
+        width,
+        height,
+        depth,
+        stride: width * bytes_a_sample(depth),
+    }
 }
 
 fn plane(seed: u64, lines: LinesNumbers) -> Plane {
@@ -25,16 +37,10 @@ fn plane(seed: u64, lines: LinesNumbers) -> Plane {
     }
 }
 
-/// Two fields of half the height, without padding.
-pub fn weave(input: &'static str, depth: u32) -> Contest {
-    let lines = |width: u32, height: u32| LinesNumbers {
-        width,
-        height,
-        depth,
-        stride: width * bytes_a_sample(depth),
-    };
-    let luma = lines(WIDTH, HEIGHT / 2);
-    let chroma = lines(WIDTH / 2, HEIGHT / 4);
+/// The shape of a field of a frame of this size, and two fields of noise.
+fn two_fields(size: Size, depth: u32) -> (FieldNumbers, [Frame; 2]) {
+    let luma = lines(size.width, size.height / 2, depth);
+    let chroma = lines(size.width / 2, size.height / 4, depth);
     let shape = FieldNumbers {
         luma,
         cb: chroma,
@@ -42,8 +48,8 @@ pub fn weave(input: &'static str, depth: u32) -> Contest {
     };
     let fields = [1, 4].map(|seed| Frame {
         format: Format {
-            width: WIDTH,
-            height: HEIGHT / 2,
+            width: luma.width,
+            height: luma.height,
             depth: depth as u8,
             ..Format::default()
         },
@@ -54,48 +60,134 @@ pub fn weave(input: &'static str, depth: u32) -> Contest {
         ],
         ..Frame::default()
     });
-    let fields = Rc::new(fields);
-    let lent = fields.clone();
-    let mut outs = fields[0]
-        .planes
-        .each_ref()
-        .map(|plane| vec![0; 2 * plane.data.len()]);
-    Contest {
-        call: "weave",
-        input,
-        rattle: Box::new(move || {
-            let [top, bottom] = black_box(&*lent)
-                .each_ref()
-                .map(|field| field.planes.each_ref().map(|plane| &plane.data[..]));
-            let outs = outs.each_mut();
-            let number = desk::weave(shape, top, shape, bottom, outs.map(Vec::as_mut_slice));
-            assert_eq!(number, 0, "an input of the benchmark is refused");
-        }),
-        rust: Box::new(move || {
-            let [top, bottom] = black_box(&*fields);
-            black_box(runs::weave::by_rust(top, bottom));
-        }),
-    }
+    (shape, fields)
+}
+
+fn lent(field: &Frame) -> [&[u8]; 3] {
+    field.planes.each_ref().map(|plane| &plane.data[..])
+}
+
+/// Room for the planes of the frame that two such fields make.
+fn room(field: &Frame) -> [Vec<u8>; 3] {
+    let planes = field.planes.each_ref();
+    planes.map(|plane| vec![0; 2 * plane.data.len()])
+}
+
+pub fn weave(size: Size, depth: u32) -> Contest {
+    let input = format!("{size}, {depth} bits");
+    let sides = move || {
+        let (shape, fields) = two_fields(size, depth);
+        let mut outs = room(&fields[0]);
+        let fields = Rc::new(fields);
+        let for_rattle = fields.clone();
+        Sides {
+            rattle: side(move || {
+                let [top, bottom] = black_box(&*for_rattle).each_ref().map(lent);
+                let outs = outs.each_mut().map(Vec::as_mut_slice);
+                taken(desk::weave(shape, top, shape, bottom, outs));
+            }),
+            rust: Some(side(move || {
+                let [top, bottom] = black_box(&*fields);
+                black_box(runs::weave::by_rust(top, bottom));
+            })),
+            inlined: None,
+        }
+    };
+    Contest::new("weave", input, (size.pixels(), "pixel"), sides)
+}
+
+/// Asked for the lines of a woven plane in turn.
+pub fn line_number(size: Size, calls: u64) -> Contest {
+    let input = format!("{size}, {calls} calls");
+    let sides = move || {
+        let lines = lines(size.width, size.height / 2, 8);
+        let bytes = u64::from(lines.stride) * u64::from(lines.height);
+        Sides {
+            rattle: side(move || {
+                for y in (0..2 * lines.height).cycle().take(calls as usize) {
+                    let lines = black_box(lines);
+                    let number = desk::line_number(lines, bytes, lines, bytes, black_box(y));
+                    taken(number);
+                }
+            }),
+            rust: None,
+            inlined: None,
+        }
+    };
+    Contest::new("line_number", input, (calls, "call"), sides).beside("not in the original")
+}
+
+/// Every line of a plane, a call each. The Rust weaves whole frames alone; its
+/// chroma planes are one sample each.
+pub fn woven_line(size: Size, depth: u32) -> Contest {
+    let input = format!("{size}, {depth} bits");
+    let sides = move || {
+        let lines = lines(size.width, size.height / 2, depth);
+        let one = Plane {
+            data: vec![0; 2],
+            stride: 2,
+            width: 1,
+            height: 1,
+        };
+        let fields = two_fields(size, depth).1.map(|field| {
+            let [luma, _, _] = field.planes;
+            Frame {
+                planes: [luma, one.clone(), one.clone()],
+                ..field
+            }
+        });
+        let fields = Rc::new(fields);
+        let for_rattle = fields.clone();
+        let row = lines.stride as usize;
+        let mut out = vec![0; 2 * row * lines.height as usize];
+        Sides {
+            rattle: side(move || {
+                let [top, bottom] = black_box(&*for_rattle)
+                    .each_ref()
+                    .map(|field| &field.planes[0].data[..]);
+                for (y, line) in (0..).zip(out.chunks_exact_mut(row)) {
+                    taken(desk::woven_line(top, lines, bottom, lines, y, line));
+                }
+                black_box(&mut out);
+            }),
+            rust: Some(side(move || {
+                let [top, bottom] = black_box(&*fields);
+                let woven = runs::weave::by_rust(top, bottom);
+                black_box(woven.expect("an input of the benchmark is taken"));
+            })),
+            inlined: None,
+        }
+    };
+    Contest::new("woven_line", input, (size.pixels(), "pixel"), sides)
+        .beside("the Rust: weave of the plane at once")
 }
 
 /// A frame of two planes (biplanar) or three, each row with 64 bytes of padding.
-pub fn readback(input: &'static str, depth: u32, planes: u32) -> Contest {
-    let row = WIDTH * bytes_a_sample(depth);
+pub fn readback(size: Size, depth: u32, planes: u32) -> Contest {
+    let input = format!("{size}, {depth} bits, {planes} planes");
+    Contest::new("readback", input, (size.pixels(), "pixel"), move || {
+        readback_sides(size, depth, planes)
+    })
+}
+
+fn readback_sides(size: Size, depth: u32, planes: u32) -> Sides {
+    let Size { width, height } = size;
+    let row = width * bytes_a_sample(depth);
     let chroma = if planes == 2 { row } else { row / 2 };
     let (luma_pitch, chroma_pitch) = (row + 64, chroma + 64);
     let about = ReadbackNumbers {
         planes,
-        width: WIDTH,
-        height: HEIGHT,
+        width,
+        height,
         depth,
         luma_pitch,
         second_pitch: chroma_pitch,
         third_pitch: chroma_pitch,
     };
     let sizes = [
-        (luma_pitch, HEIGHT),
-        (chroma_pitch, HEIGHT / 2),
-        (chroma_pitch, HEIGHT / 2),
+        (luma_pitch, height),
+        (chroma_pitch, height / 2),
+        (chroma_pitch, height / 2),
     ];
     let all = sizes.into_iter().zip(1..).take(planes as usize);
     let read = Rc::new(Readback {
@@ -107,24 +199,131 @@ pub fn readback(input: &'static str, depth: u32, planes: u32) -> Contest {
             })
             .collect(),
     });
-    let lent = read.clone();
-    let size = (row * HEIGHT) as usize;
+    let for_rattle = read.clone();
+    let size = (row * height) as usize;
     let mut outs = [vec![0; size], vec![0; size / 4], vec![0; size / 4]];
-    Contest {
-        call: "readback",
-        input,
-        rattle: Box::new(move || {
+    Sides {
+        rattle: side(move || {
             let mut planes: [&[u8]; 3] = [&[]; 3];
-            for (plane, (bytes, _, _)) in planes.iter_mut().zip(&black_box(&*lent).planes) {
+            for (plane, (bytes, _, _)) in planes.iter_mut().zip(&black_box(&*for_rattle).planes) {
                 *plane = bytes;
             }
-            let outs = outs.each_mut();
-            let number = desk::readback(about, planes, outs.map(Vec::as_mut_slice));
-            assert_eq!(number, 0, "an input of the benchmark is refused");
+            let outs = outs.each_mut().map(Vec::as_mut_slice);
+            taken(desk::readback(about, planes, outs));
         }),
-        rust: Box::new(move || {
+        rust: Some(side(move || {
             let frame = runs::readback::by_rust(black_box(&read));
             black_box(frame.expect("an input of the benchmark is taken"));
-        }),
+        })),
+        inlined: None,
+    }
+}
+
+pub fn weaver_new(calls: u64) -> Contest {
+    let input = format!("{calls} calls");
+    Contest::new("weaver_new", input, (calls, "call"), move || {
+        let mut state = [0; WEAVER_BYTES];
+        Sides {
+            rattle: again(calls, move || {
+                taken(desk::weaver_new(black_box(&mut state)));
+            }),
+            rust: Some(again(calls, || {
+                black_box(&mut called::new());
+            })),
+            inlined: Some(again(calls, || {
+                black_box(&mut crate::decode::weave::Weaver::default());
+            })),
+        }
+    })
+}
+
+/// Of a weaver with no field: there the Rust has nothing to free.
+pub fn weaver_clear(calls: u64) -> Contest {
+    let input = format!("{calls} calls, no field");
+    Contest::new("weaver_clear", input, (calls, "call"), move || {
+        let mut state = [0; WEAVER_BYTES];
+        taken(desk::weaver_new(&mut state));
+        let [mut rust, mut inlined] = [0; 2].map(|_| called::new());
+        Sides {
+            rattle: again(calls, move || {
+                taken(desk::weaver_clear(black_box(&mut state)));
+            }),
+            rust: Some(again(calls, move || called::clear(black_box(&mut rust)))),
+            inlined: Some(again(calls, move || black_box(&mut inlined).clear())),
+        }
+    })
+}
+
+/// Two fields that make a frame. The desk keeps the first one's bytes in what
+/// the caller lends; the Rust is given whole frames to own. Where they are
+/// `copied`, that is done within its time, as a caller must who keeps them.
+pub fn weaver_push(size: Size, depth: u32, copied: bool) -> Contest {
+    let input = format!("{size}, {depth} bits");
+    let sides = move || {
+        let (shape, fields) = two_fields(size, depth);
+        let mut outs = room(&fields[0]);
+        let mut state = [0; WEAVER_BYTES];
+        taken(desk::weaver_new(&mut state));
+        let bytes: usize = lent(&fields[0]).iter().map(|plane| plane.len()).sum();
+        let mut store = vec![0; bytes];
+        let fields = Rc::new(fields);
+        let for_rattle = fields.clone();
+        let mut weaver = Weaver::default();
+        Sides {
+            rattle: side(move || {
+                let (mut picture, mut timed, mut time) = (0, 0, 0);
+                for (parity, field) in (0..).zip(black_box(&*for_rattle)) {
+                    taken(desk::weaver_push(
+                        &mut state,
+                        parity,
+                        1,
+                        7,
+                        shape,
+                        lent(field),
+                        &mut store,
+                        outs.each_mut().map(Vec::as_mut_slice),
+                        &mut picture,
+                        &mut timed,
+                        &mut time,
+                    ));
+                }
+                assert_eq!(picture, 1, "two fields make a frame");
+            }),
+            rust: Some(Box::new(move || {
+                let mut push = |[top, bottom]: [Frame; 2]| {
+                    assert!(weaver.push(top, true, Some(7)).is_none());
+                    let woven = weaver.push(bottom, false, Some(7));
+                    black_box(woven.expect("two fields make a frame"));
+                };
+                if copied {
+                    timed(|| push((*fields).clone()))
+                } else {
+                    let owned = (*fields).clone();
+                    timed(|| push(owned))
+                }
+            })),
+            inlined: None,
+        }
+    };
+    let beside = if copied {
+        "the Rust: with a copy of each field, which it takes away"
+    } else {
+        "the Rust: fields that it takes away"
+    };
+    Contest::new("weaver_push", input, (size.pixels(), "pixel"), sides).beside(beside)
+}
+
+/// The Rust as calls.
+mod called {
+    use crate::decode::weave::Weaver;
+
+    #[inline(never)]
+    pub fn new() -> Weaver {
+        Weaver::default()
+    }
+
+    #[inline(never)]
+    pub fn clear(weaver: &mut Weaver) {
+        weaver.clear();
     }
 }
