@@ -9,7 +9,7 @@ use native.Mathlib.Nat.{zero-mul, suc-mul, mul-le-mul-right, le-trans, le-antisy
 use native.Mathlib.Numerals.{add-one}
 use native.Mathlib.Omega.{arith}
 use lib.ListN.{length, take, drop, getD, set, length-append, length-drop, length-set, drop-of-length-le, List·getD-append}
-use lib.Seq.{drop-cons, set-at, take-at, drop-at, drop-drop, getD-at, getD-append-add}
+use lib.Seq.{ext-getD, drop-cons, set-at, take-at, drop-at, drop-drop, getD-at, getD-append-add, length-take-le, getD-take, getD-drop}
 use Rattle.laws.specs.Rows.{listed, laid, over}
 
 -- ---- a list given place by place
@@ -37,6 +37,25 @@ module _ {A : Type 0} where
       place (no e) earlier =
           let below : x < n = omega (arith, e) in
           List·getD-append (listed n f) (f n ∷ []) d x (rw (length-listed n f) below) ∙ earlier below
+
+  -- a list is what stands in its places
+  pub listed-again : (l : List A) (n : ℕ) (d : A) → n ≡ length l → listed n (λ x. getD l x d) ≡ l
+  listed-again l n d e =
+      let long = length-listed n (λ (x : ℕ). getD l x d) in
+      ext-getD d (listed n (λ x. getD l x d)) l (long ∙ e) (λ i h. listed-at n (λ (x : ℕ). getD l x d) i d (rw long at h))
+
+  -- ---- a part of a list: how long one is that ends within its list, and what stands in it
+  pub part-length : (l : List A) (start n : ℕ) → start + n ≤ length l → length (take n (drop start l)) ≡ n
+  part-length l start n h = length-take-le n (drop start l) (rw length-drop (omega arith))
+
+  pub part-at : (l : List A) (start n x : ℕ) (d : A) → x < n → getD (take n (drop start l)) x d ≡ getD l (start + x) d
+  part-at l start n x d h = getD-take n (drop start l) x d h ∙ getD-drop start l x d
+
+  -- rows laid end to end are equal by their rows
+  pub same-laid : (n : ℕ) (f g : ℕ → List A) → ((y : ℕ) → y < n → f y ≡ g y) → laid n f ≡ laid n g
+  unfolding laid
+  same-laid zero f g h = refl
+  same-laid (suc n) f g h = ap₂ (λ (front last : List A). front ++ last) (same-laid n f g (λ y l. h y (omega arith))) (h n (omega arith))
 
 -- ---- rows of one width laid end to end
 module _ {A : Type 0} (row : ℕ → List A) (width : ℕ) (wide : (y : ℕ) → length (row y) ≡ width) where

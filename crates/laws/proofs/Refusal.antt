@@ -135,6 +135,9 @@ pub done-writes : {A : Type 0} {n : ℕ} {x : A} (y old : A) → 0 ≡ n → x �
 done-writes {A} {n} {x} y old z e = (z, written-done y old z (done-equal y z e))
 
 -- at another number what stood there stays
+pub stays : {A : Type 0} {n : ℕ} (new old : A) → (n ≡ 0 → ⊥) → old ≡ written n new old
+stays {A} {n} new old refused = simp (ne-eqb n 0 refused)
+
 pub refusal-keeps : {A B : Type 0} {m n : ℕ} (y : B) (new old : A) → m ≡ n → [] ≡ whenDone n y → (m ≡ n) × (old ≡ written n new old)
 refusal-keeps {A} {B} {m} {n} y new old e none = (e, kept (eqb n 0) none)
   where

@@ -1,6 +1,6 @@
 -- Laws of rows laid end to end that are not about pictures: rows written several at a time, and a row cut out again. Assumes nothing.
 use Prim.Native.Nat.{ℕ, zero, suc, _+_, _-_, _*_, _≤_, _<_}
-use mathlib.Core.Path.{_≡_, refl, sym, ap, ap₂, _∙_}
+use mathlib.Core.Path.{_≡_, sym, ap, _∙_}
 use mathlib.Core.List.{List, [], _∷_, _++_, append-nil, append-assoc}
 use native.Mathlib.Decide.{ℕ-discrete}
 use native.Mathlib.Nat.{add-zero, add-suc, add-mul, le-trans, mul-le-mul-right}
@@ -11,12 +11,6 @@ use Rattle.laws.specs.Rows.{laid}
 use Rattle.laws.proofs.Lists.{Stacked, length-laid}
 
 module _ {A : Type 0} where
-  -- two are equal by their rows
-  pub same-laid : (n : ℕ) (f g : ℕ → List A) → ((y : ℕ) → y < n → f y ≡ g y) → laid n f ≡ laid n g
-  unfolding laid
-  same-laid zero f g h = refl
-  same-laid (suc n) f g h = ap₂ (λ (front last : List A). front ++ last) (same-laid n f g (λ y l. h y (omega arith))) (h n (omega arith))
-
   -- k rows after the first n
   laid-further : (n k : ℕ) (row : ℕ → List A) → laid (n + k) row ≡ laid n row ++ laid k (λ y. row (n + y))
   unfolding laid

@@ -1,17 +1,16 @@
--- Laws of lists and of refusals that say nothing of readback. Assumes nothing.
+-- Laws of lists that say nothing of readback. Assumes nothing.
 use Prim.Native.Nat.{ℕ, zero, suc, _+_, _-_, _*_, _≤_, _<_}
-use mathlib.Core.Path.{_≡_, refl, sym, ap, ap₂, subst, _∙_}
+use mathlib.Core.Path.{_≡_, refl, sym, ap, subst, _∙_}
 use mathlib.Core.List.{List, [], _∷_, _++_, append-assoc}
 use native.Mathlib.Nat.{mul-le-mul-right}
 use native.Mathlib.Numerals.{add-one}
 use native.Mathlib.Omega.{arith}
-use lib.ListN.{length, take, drop, set, getD, length-drop}
-use lib.Seq.{length-take-le, getD-take, getD-drop, drop-drop, sets-eq}
-use borrow.Author.Tests.{ne-eqb}
-use Rattle.laws.specs.Refusal.{written}
-use Rattle.laws.specs.Rows.{listed, laid}
-use Rattle.laws.proofs.Lists.{Filled, fill-ends, Stacked, stacks, stack-ends, length-laid}
+use lib.ListN.{length, take, drop, set, getD}
+use lib.Seq.{take-all, drop-drop, sets-eq}
+use Rattle.laws.specs.Rows.{listed, laid, over}
+use Rattle.laws.proofs.Lists.{listed-again, Filled, fill-ends, Stacked, stacks, stack-ends, length-laid}
 use Rattle.laws.proofs.Rows.{over-all}
+use Rattle.copy.proofs.Copied.{copied-all}
 
 -- ---- rows laid end to end
 module _ {A : Type 0} where
@@ -27,11 +26,16 @@ module _ {A : Type 0} where
       let long : length old ≡ n = omega arith in
       fill-ends l (omega arith) ∙ ap (λ (k : ℕ). listed k f) long ∙ sym (laid-singles n f)
 
-  -- two are equal by their rows
-  pub same-laid : (n : ℕ) (f g : ℕ → List A) → ((x : ℕ) → x < n → f x ≡ g x) → laid n f ≡ laid n g
-  unfolding laid
-  same-laid zero f g h = refl
-  same-laid (suc n) f g h = ap₂ (λ (front last : List A). front ++ last) (same-laid n f g (λ x l. h x (omega arith))) (h n (omega arith))
+  -- copied whole
+  pub copy-lays :
+      (old row : List A) (n : ℕ) (d : A) → length old ≡ n * 1 → length row ≡ n * 1 →
+      over (take (length old) (take (n - 0) row)) old ≡ laid n (λ x. getD row x d ∷ [])
+  copy-lays old row n d e r =
+      let long : n ≡ length row = omega arith in
+      ap (λ (part : List A). over (take (length old) part) old) (take-all (n - 0) row (omega arith))
+      ∙ copied-all old row (e ∙ sym r)
+      ∙ sym (listed-again row n d long)
+      ∙ sym (laid-singles n (λ x. getD row x d))
 
   -- two elements written one after the other are a part written
   two-written :
@@ -61,22 +65,8 @@ module _ {A : Type 0} where
   stack-fills {row} {width} {n} {old} wide s h e =
       stack-ends wide s h ∙ over-all (laid n row) old (e ∙ sym (length-laid row width wide n))
 
--- ---- a part of a list
--- how long one is that ends within its list
-pub part-length : (bytes : List ℕ) (start n : ℕ) → start + n ≤ length bytes → length (take n (drop start bytes)) ≡ n
-part-length bytes start n h = length-take-le n (drop start bytes) (rw length-drop (omega arith))
-
--- what stands in it
-pub part-at : (bytes : List ℕ) (start n i : ℕ) → i < n → getD (take n (drop start bytes)) i 0 ≡ getD bytes (start + i) 0
-part-at bytes start n i h = getD-take n (drop start bytes) i 0 h ∙ getD-drop start bytes i 0
-
 -- row y of rows that stand a stride apart ends before the last one does
 pub strided-within : (stride height row bytes y : ℕ) → (height - 1) * stride + row ≤ bytes → y < height → y * stride + row ≤ bytes
 strided-within stride height row bytes y long h =
     let above : y ≤ height - 1 = omega arith in
     omega (arith, mul-le-mul-right stride above)
-
--- ---- refusals
--- at a number other than 0 what stood there stays
-pub stays : {A : Type 0} {n : ℕ} (new old : A) → (n ≡ 0 → ⊥) → old ≡ written n new old
-stays {A} {n} new old refused = simp (ne-eqb n 0 refused)

@@ -9,7 +9,7 @@ use lib.Dec.{leb}
 use lib.ListN.{length, getD, take, drop}
 use borrow.Author.Tests.{leb-true, lt-leb}
 use Rattle.laws.specs.Rows.{laid}
-use Rattle.laws.proofs.Lists.{length-laid}
+use Rattle.laws.proofs.Lists.{part-at, same-laid, length-laid}
 use Rattle.plane.specs.declared.Shape.{Shape}
 use Rattle.plane.specs.declared.Layout.{Layout}
 use Rattle.plane.specs.declared.Layout.the-variants.{Planar, Luma, First, Second}
@@ -18,7 +18,6 @@ use Rattle.readback.specs.declared.Kind.{Kind}
 use Rattle.readback.specs.declared.Kind.the-variants.{Byte, EverySecondByte, Pair, EverySecondPair}
 use Rattle.readback.specs.Readback.{codeBytes, copiedRow}
 use Rattle.readback.specs.Inner.{alone, kindBy, kindOf, stepOf, sizeOf, pairOf, copyIn}
-use Rattle.readback.proofs.General.{same-laid, part-at}
 
 -- ---- how long rows are
 step-by : (byte : Bool) (layout : Layout) → stepOf (kindBy byte (alone layout)) ≡ components layout * cond byte 1 2
@@ -58,7 +57,7 @@ length-copied bytes s y = length-laid _ (sampleBytes (s .depth)) (λ x. length-c
 module _ (bytes : List ℕ) (start width x : ℕ) (l : x < width) where
   -- the byte at place i of a row of n bytes is the plane's at j
   there : (n i : ℕ) {j : ℕ} → i < n → start + i ≡ j → getD (take n (drop start bytes)) i 0 ≡ getD bytes j 0
-  there n i h e = part-at bytes start n i h ∙ ap (λ (k : ℕ). getD bytes k 0) e
+  there n i h e = part-at bytes start n i 0 h ∙ ap (λ (k : ℕ). getD bytes k 0) e
 
   byte-there :
       (layout : Layout) (right : ℕ) →

@@ -238,11 +238,7 @@ fn copy_bytes(to: &mut [u8], row: &[u8], width: usize)
     requires { ⌜ RowRoom Byte width (now to) (now row) ⌝ }
     ensures { λ _. ⌜ now (to .exit) ≡ laid width (copyIn Byte (now (row .entry)) 0 0) ⌝ }
 {
-    let mut x = 0;
-    while x < width {
-        to[x] = row[x];
-        x += 1;
-    }
+    copy::copy_front(to, &row[0..width]);
 }
 
 fn copy_every_second_byte(to: &mut [u8], row: &[u8], width: usize, lane: usize)

@@ -25,3 +25,4 @@ pub mod Desk
 pub mod Picturedesk
 pub mod Filmdesk
 pub mod Weavedesk
+pub mod Answers

@@ -6,11 +6,11 @@ use native.Mathlib.Omega.{arith}
 use lib.ListN.{length, getD, take, drop}
 use Rattle.laws.specs.Refusal.{rising}
 use Rattle.laws.proofs.Claims.{lowest-says}
-use Rattle.laws.proofs.Lists.{length-laid, laid-at}
+use Rattle.laws.proofs.Lists.{part-at, length-laid, laid-at}
 use Rattle.weave.specs.declared.Lines.{Lines}
 use Rattle.weave.specs.Weave.{lineBytes, wovenLine, wovenPlane, wovenBytes, weaveTests, lineTests}
 use Rattle.weave.specs.Claims.{WeaveSays, LineSays, Matched, WovenAlternates, LineOfWoven}
-use Rattle.weave.proofs.General.{part-at, row-of-laid, clamped-row}
+use Rattle.weave.proofs.General.{row-of-laid, clamped-row}
 use Rattle.weave.proofs.Fields.{wovenRows, same-size, rows-wide, rows-laid, even-row, odd-row}
 
 pub weave-says : WeaveSays

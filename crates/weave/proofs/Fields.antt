@@ -11,7 +11,7 @@ use lib.ListN.{length, take, drop}
 use borrow.Author.Tests.{leb-true, eqb-true, eq-eqb, ne-eqb}
 use Rattle.laws.specs.Rows.{laid, over}
 use Rattle.laws.proofs.Rows.{row-within}
-use Rattle.laws.proofs.Lists.{Stacked, stack-starts, stack-ends}
+use Rattle.laws.proofs.Lists.{part-length, Stacked, stack-starts, stack-ends}
 use Rattle.plane.specs.declared.Shape.{Shape}
 use Rattle.plane.specs.Plane.{goodShape, planeBytes, sampleBytes, agree}
 use Rattle.plane.proofs.Bounds.{good-within}
@@ -19,7 +19,7 @@ use Rattle.plane.proofs.Coordinates.{both-inside}
 use Rattle.weave.specs.declared.Lines.{Lines}
 use Rattle.weave.specs.Weave.{shapeOf, lineBytes, goodLines, lineIn, wovenLine, wovenPlane, wovenBytes}
 use Rattle.weave.specs.Claims.{Matched}
-use Rattle.weave.proofs.General.{part-length, stacks-part, clamped, clamped-wide, clamped-row, clamped-laid}
+use Rattle.weave.proofs.General.{stacks-part, clamped, clamped-wide, clamped-row, clamped-laid}
 
 -- planes that agree, number by number
 pub record Alike (a b : Shape) : Type 0 where

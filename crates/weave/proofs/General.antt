@@ -1,36 +1,13 @@
--- Laws of lists, of rows laid end to end and of refusals that are not about weaving. Assumes nothing.
-use Prim.Native.Nat.{ℕ, zero, suc, _+_, _-_, _*_, _≤_, _<_, min}
-use mathlib.Core.Path.{_≡_, refl, sym, ap₂, subst, _∙_}
+-- Laws of rows laid end to end that are not about weaving. Assumes nothing.
+use Prim.Native.Nat.{ℕ, suc, _+_, _-_, _*_, _≤_, _<_, min}
+use mathlib.Core.Path.{_≡_, sym, subst, _∙_}
 use mathlib.Core.List.{List, _++_}
 use native.Mathlib.Omega.{arith}
-use lib.ListN.{length, take, drop, getD, length-drop}
-use lib.Seq.{ext-getD, length-take-le, drop-drop, getD-take, getD-drop}
-use borrow.Author.Tests.{ne-eqb}
-use Rattle.laws.specs.Refusal.{written}
-use Rattle.laws.specs.Rows.{listed, laid}
-use Rattle.laws.proofs.Lists.{length-listed, listed-at, length-laid, laid-at, Stacked, stacks}
+use lib.ListN.{length, take, drop}
+use lib.Seq.{ext-getD, drop-drop}
+use Rattle.laws.specs.Rows.{laid}
+use Rattle.laws.proofs.Lists.{part-length, part-at, same-laid, length-laid, laid-at, Stacked, stacks}
 use Rattle.laws.proofs.Rows.{row-within}
-
-module _ {A : Type 0} where
-  -- a list is what stands in its places
-  pub listed-again : (l : List A) (n : ℕ) (d : A) → n ≡ length l → listed n (λ x. getD l x d) ≡ l
-  listed-again l n d e =
-      let long = length-listed n (λ (x : ℕ). getD l x d) in
-      ext-getD d (listed n (λ x. getD l x d)) l (long ∙ e) (λ i h. listed-at n (λ (x : ℕ). getD l x d) i d (rw long at h))
-
-  -- how long a part is that ends within its list
-  pub part-length : (l : List A) (start n : ℕ) → start + n ≤ length l → length (take n (drop start l)) ≡ n
-  part-length l start n h = length-take-le n (drop start l) (rw length-drop (omega arith))
-
-  -- what stands in a part
-  pub part-at : (l : List A) (start n x : ℕ) (d : A) → x < n → getD (take n (drop start l)) x d ≡ getD l (start + x) d
-  part-at l start n x d h = getD-take n (drop start l) x d h ∙ getD-drop start l x d
-
-  -- rows laid end to end are equal by their rows
-  pub same-laid : (n : ℕ) (f g : ℕ → List A) → ((y : ℕ) → y < n → f y ≡ g y) → laid n f ≡ laid n g
-  unfolding laid
-  same-laid zero f g h = refl
-  same-laid (suc n) f g h = ap₂ (λ (front last : List A). front ++ last) (same-laid n f g (λ y l. h y (omega arith))) (h n (omega arith))
 
 -- a row of rows of one width laid end to end
 module _ {A : Type 0} (row : ℕ → List A) (width : ℕ) (wide : (y : ℕ) → length (row y) ≡ width) where
@@ -71,7 +48,3 @@ module _ {A : Type 0} (row : ℕ → List A) (last : ℕ) where
 
   pub clamped-laid : (n : ℕ) → n ≤ suc last → laid n clamped ≡ laid n row
   clamped-laid n h = same-laid n clamped row (λ y l. clamped-row y (omega arith))
-
--- a call whose number is not 0 leaves what stood in a lent place
-pub kept : {A : Type 0} {n : ℕ} (new old : A) → (n ≡ 0 → ⊥) → old ≡ written n new old
-kept {A} {n} new old z = simp (ne-eqb n 0 z)

@@ -122,24 +122,12 @@ pub fn room_for(f: Field, luma: usize, cb: usize, cr: usize) -> bool
 
 // ---- one plane
 
-// Copies src over dst, which is as long. A plain loop over two parts, so that the compiler vectorises it.
-fn copy_row(dst: &mut [u8], src: &[u8])
-    requires { ⌜ length (now dst) ≡ length (now src) ⌝ }
-    ensures { λ _. ⌜ now (dst .exit) ≡ now (src .entry) ⌝ }
-{
-    let mut i = 0;
-    while i < dst.len() {
-        dst[i] = src[i];
-        i += 1;
-    }
-}
-
-// The same of n bytes from `from` on, to `at`.
+// Copies n bytes of src from `from` on over those of dst from `at` on.
 fn copy_part(dst: &mut [u8], at: usize, src: &[u8], from: usize, n: usize)
     requires { ⌜ (at + n ≤ length (now dst)) × (from + n ≤ length (now src)) ⌝ }
     ensures { λ _. ⌜ now (dst .exit) ≡ take at (now (dst .entry)) ++ (take n (drop from (now (src .entry))) ++ drop (at + n) (now (dst .entry))) ⌝ }
 {
-    copy_row(&mut dst[at..at + n], &src[from..from + n]);
+    copy::copy_front(&mut dst[at..at + n], &src[from..from + n]);
 }
 
 // A top line and a bottom line in each turn; nothing is judged per line.

@@ -7,11 +7,12 @@ use native.Mathlib.Omega.{arith}
 use lib.Dec.{leb, lit<}
 use lib.ListN.{length}
 use borrow.Author.Tests.{eq-eqb, le-leb, lt-leb}
+use Rattle.laws.proofs.Refusal.{stays}
 use Rattle.laws.specs.Refusal.{lowest, rising, written}
 use Rattle.laws.specs.Rows.{over}
 use Rattle.weave.specs.declared.Lines.{Lines}
 use Rattle.weave.specs.Weave.{lineBytes, lineNo, lineTests, wovenLine}
-use Rattle.weave.proofs.General.{clamped-row, kept}
+use Rattle.weave.proofs.General.{clamped-row}
 use Rattle.weave.proofs.Fields.{rows-wide}
 use Rattle.weave.proofs.Judged.{line-judged}
 use Rattle.weavedesk.specs.declared.LinesNumbers.{LinesNumbers}
@@ -41,7 +42,7 @@ module _ (top : List ℕ) (t : LinesNumbers) (bottom : List ℕ) (b : LinesNumbe
     pub line-refused : (no ≡ 0 → ⊥) → Ends no out
     line-refused z = (
       named ∙ refused-already (lineTests (linesNamed t) (length top) (linesNamed b) (length bottom) y) _ (λ h. z (named ∙ h)),
-      kept (over (wovenLine top (linesNamed t) bottom (linesNamed b) y) out) out z,
+      stays (over (wovenLine top (linesNamed t) bottom (linesNamed b) y) out) out z,
     )
 
     module _ (z : no ≡ 0) {line : List ℕ}

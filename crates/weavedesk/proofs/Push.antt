@@ -9,12 +9,11 @@ use lib.ListN.{length}
 use lib.IntN.{ℤ}
 use borrow.Author.Tests.{leb-true}
 use Rattle.laws.specs.Refusal.{lowest, written, whenDone}
-use Rattle.laws.proofs.Refusal.{done-equal}
+use Rattle.laws.proofs.Refusal.{done-equal, stays}
 use Rattle.field.specs.Field.{parityNamed}
 use Rattle.field.specs.declared.Parity.{Parity}
 use Rattle.weave.specs.declared.Field.{Field}
 use Rattle.weave.specs.Weave.{givenOf, goodField, chromaFits, whole, roomFor}
-use Rattle.weave.proofs.General.{kept}
 use Rattle.weaver.specs.declared.Time.{Time}
 use Rattle.weaver.specs.declared.Weaver.{Weaver}
 use Rattle.weaver.specs.declared.Paired.{Paired}
@@ -157,7 +156,7 @@ module _ (a : Call) (old : Places) where
     e
         ∙ first-step-refuses (whole (givenOf theField (a .luma) (a .cb) (a .cr))) (leb (keptBytes theWeaver) (length (old .store))) behind
         (leb (a .parity) 1 && leb (a .timed) 1) (goodField theField) (chromaFits theField) (leb 56 (length (old .state))) (λ zero. z (e ∙ zero)),
-    (kept _ _ z, (kept _ _ z, (kept _ _ z, (kept _ _ z, (kept _ _ z, (kept _ _ z, (kept _ _ z, kept _ _ z))))))),
+    (stays _ _ z, (stays _ _ z, (stays _ _ z, (stays _ _ z, (stays _ _ z, (stays _ _ z, (stays _ _ z, stays _ _ z))))))),
   )
 
   -- by the names that the contract uses
@@ -237,8 +236,8 @@ module _ (a : Call) (old : Places) where
     refused-then z = (
       number,
       (
-        kept _ _ z,
-        (the-store (sym said), (the-luma (sym said), (the-cb (sym said), (the-cr (sym said), (kept _ _ z, (kept _ _ z, kept _ _ z)))))),
+        stays _ _ z,
+        (the-store (sym said), (the-luma (sym said), (the-cb (sym said), (the-cr (sym said), (stays _ _ z, (stays _ _ z, stays _ _ z)))))),
       ),
     )
 

@@ -5,13 +5,13 @@ use mathlib.Core.Bool.{Bool, true, false}
 use mathlib.Core.List.{List, [], _∷_}
 use lib.ListN.{length}
 use borrow.Author.Tests.{ne-eqb}
+use Rattle.laws.proofs.Refusal.{stays}
 use Rattle.laws.specs.Refusal.{lowest, whenDone, written}
 use Rattle.laws.specs.Rows.{over}
 use Rattle.field.specs.declared.Parity.{Parity}
 use Rattle.field.specs.declared.Parity.the-variants.{Top, Bottom}
 use Rattle.weave.specs.declared.Lines.{Lines}
 use Rattle.weave.specs.Weave.{Given, wovenPlane}
-use Rattle.weave.proofs.General.{kept}
 use Rattle.weaver.specs.declared.Time.{Time}
 use Rattle.weaver.specs.declared.Weaver.{Weaver}
 use Rattle.weaver.specs.declared.Paired.{Paired}
@@ -51,7 +51,7 @@ module _ (w : Weaver) (g : Given) (parity : Parity) (time : Time) (store luma cb
     number = judged ∙ ap (λ (b : Bool). lowest (testsOf w g b (length store) (length luma) (length cb) (length cr))) fit
 
     pub refused : (n ≡ 0 → ⊥) → Promised w (paired.Refused n) store luma cb cr
-    refused h = (number, (simp (ne-eqb n 0 h), (kept _ _ h, (kept _ _ h, (kept _ _ h, (kept _ _ h, kept _ _ h))))))
+    refused h = (number, (simp (ne-eqb n 0 h), (stays _ _ h, (stays _ _ h, (stays _ _ h, (stays _ _ h, stays _ _ h))))))
 
     pub pictured :
         {new : Weaver} {luma′ cb′ cr′ : List ℕ} → n ≡ 0 → picture ≡ true → new ≡ emptyWeaver

@@ -9,9 +9,8 @@ use lib.ListN.{length, take, drop, length-append}
 use lib.Seq.{ext-getD, take-at, drop-drop, drop-at}
 use Rattle.laws.specs.Refusal.{written}
 use Rattle.laws.specs.Rows.{laid, over}
-use Rattle.laws.proofs.Lists.{length-laid, laid-at}
+use Rattle.laws.proofs.Lists.{length-laid, laid-at, part-length, part-at}
 use Rattle.laws.proofs.Rows.{row-within}
-use Rattle.weave.proofs.General.{part-length, part-at}
 
 -- what two numbers of 16 and 17 bits give at most
 pub product-most : (h r : ℕ) → h ≤ 65535 → r ≤ 131070 → h * r ≤ 8589672450

@@ -7,6 +7,7 @@ use native.Mathlib.Omega.{arith}
 use lib.Dec.{leb, eqb, lit<}
 use lib.ListN.{length, take, drop}
 use borrow.Author.Tests.{leb-true, le-leb, eqb-true, eq-eqb}
+use Rattle.laws.proofs.Lists.{part-length}
 use Rattle.laws.specs.Refusal.{lowest}
 use Rattle.laws.proofs.Refusal.{first-passes, rest-passes}
 use Rattle.plane.specs.Plane.{planeBytes, half, chromaAgrees}
@@ -15,7 +16,6 @@ use Rattle.field.specs.declared.Parity.{Parity}
 use Rattle.weave.specs.declared.Lines.{Lines}
 use Rattle.weave.specs.declared.Field.{Field}
 use Rattle.weave.specs.Weave.{Given, givenOf, shapeOf, goodLines, goodField, chromaFits, fieldsAgree, whole, roomFor, wovenBytes}
-use Rattle.weave.proofs.General.{part-length}
 use Rattle.weave.proofs.Fields.{bounded}
 use Rattle.weave.proofs.Judged.{each-of-three, Half, half-of}
 use Rattle.weaver.specs.declared.Weaver.{Weaver}

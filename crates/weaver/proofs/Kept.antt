@@ -6,12 +6,12 @@ use mathlib.Core.Bool.{true, cond}
 use mathlib.Core.List.{List, _++_}
 use lib.Dec.{eqb}
 use lib.ListN.{length, take, drop}
+use Rattle.laws.proofs.Lists.{same-laid}
 use Rattle.field.specs.declared.Parity.{Parity}
 use Rattle.field.specs.declared.Parity.the-variants.{Top, Bottom}
 use Rattle.plane.specs.Plane.{planeBytes, half}
 use Rattle.weave.specs.declared.Lines.{Lines}
 use Rattle.weave.specs.Weave.{Given, shapeOf, goodLines, lineIn, wovenLine, wovenPlane}
-use Rattle.weave.proofs.General.{same-laid}
 use Rattle.weave.proofs.Judged.{Half}
 use Rattle.weaver.specs.Weaver.{packedLines, packedPlane, packedField, lumaBytes, chromaBytes, wovenBy}
 use Rattle.weaver.proofs.General.{part-one, part-two, part-three}

@@ -10,14 +10,14 @@ use lib.Dec.{leb}
 use lib.ListN.{length, take, drop, length-append}
 use borrow.Author.Tests.{le-leb}
 use Rattle.laws.specs.Rows.{laid, over}
-use Rattle.laws.proofs.Lists.{length-laid, Stacked, stack-starts, stacks, stack-ends}
+use Rattle.laws.proofs.Lists.{length-laid, Stacked, stack-starts, stacks, stack-ends, part-length}
 use Rattle.laws.proofs.Rows.{row-within, over-all}
 use Rattle.plane.specs.Plane.{sampleBytes, goodShape, planeBytes}
 use Rattle.plane.proofs.Bounds.{good-within}
 use Rattle.plane.proofs.Coordinates.{both-inside}
 use Rattle.weave.specs.declared.Lines.{Lines}
 use Rattle.weave.specs.Weave.{Given, shapeOf, lineBytes, goodLines, lineIn}
-use Rattle.weave.proofs.General.{part-length, clamped, clamped-wide, clamped-row, clamped-laid}
+use Rattle.weave.proofs.General.{clamped, clamped-wide, clamped-row, clamped-laid}
 use Rattle.weave.proofs.Fields.{bounded, line-within}
 use Rattle.weave.proofs.Judged.{Half}
 use Rattle.weaver.specs.Weaver.{packedLines, packedPlane, packedField, lumaBytes, chromaBytes, fieldBytes}
@@ -82,12 +82,11 @@ module _ (plane : List ℕ) (l : Lines) (part : ℕ) (p : Packable part (length 
 
   pub one-row :
       {old new row : List ℕ} (y : ℕ) → Stacked (packedRows plane l) n (l .height) old new y → y < l .height → length old ≡ part
-      → row ≡ take (y * l .stride + n - y * l .stride) (drop (y * l .stride) plane)
+      → row ≡ take n (drop (y * l .stride) plane)
       → Stacked (packedRows plane l) n (l .height) old (take (y * n) new ++ (row ++ drop (y * n + n - y * n) (drop (y * n) new))) (y + 1)
   one-row y s h same line =
-      let span : y * l .stride + n - y * l .stride ≡ l .width * sampleBytes (l .depth) = omega (arith, e) in
       stacks wide s h (rw same roomy) refl
-      (line ∙ ap (λ (k : ℕ). take k (drop (y * l .stride) plane)) span ∙ row-is plane l (p .good) (p .long) y h)
+      (line ∙ ap (λ (k : ℕ). take k (drop (y * l .stride) plane)) e ∙ row-is plane l (p .good) (p .long) y h)
 
   pub all-rows :
       {old new : List ℕ} (y : ℕ) → Stacked (packedRows plane l) n (l .height) old new y → l .height ≤ y → length old ≡ part → new ≡ packedPlane plane l

@@ -176,18 +176,6 @@ fn push_no(
 
 // ---- packing
 
-// Copies src over dst, which is as long: a loop that the compiler makes one copy of memory.
-fn copy_row(dst: &mut [u8], src: &[u8])
-    requires { ⌜ length (now dst) ≡ length (now src) ⌝ }
-    ensures { λ _. ⌜ now (dst .exit) ≡ now (src .entry) ⌝ }
-{
-    let mut i = 0;
-    while i < dst.len() {
-        dst[i] = src[i];
-        i += 1;
-    }
-}
-
 // The rows of a plane one after another, over a part of the store that is just as long.
 fn pack_plane(part: &mut [u8], plane: &[u8], l: Lines)
     requires { ⌜ Packable (length (now part)) (length (now plane)) l ⌝ }
@@ -198,7 +186,7 @@ fn pack_plane(part: &mut [u8], plane: &[u8], l: Lines)
     while y < l.height as usize {
         let at = y * n;
         let from = y * (l.stride as usize);
-        copy_row(&mut part[at..at + n], &plane[from..from + n]);
+        copy::copy_front(&mut part[at..at + n], &plane[from..from + n]);
         y += 1;
     }
 }

@@ -6,7 +6,9 @@
 //! [`lent`] make its inputs and its buffers, [`judge`] says which number
 //! document 01 gives, and [`runs`] lists the runs, one for each call.
 //! [`program`] starts the program `cadence`, for the runs over whole reel files.
+//! [`answers`] makes the list that the program `replay` goes through.
 
+pub mod answers;
 pub mod case;
 pub mod given;
 pub mod judge;

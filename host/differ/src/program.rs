@@ -1,5 +1,5 @@
-//! The program `cadence`, started anew for each reel file, and its listing
-//! beside another.
+//! A program of this repository, started anew for each file (`cadence` for each
+//! reel file), and its listing beside another.
 
 use std::env;
 use std::io::Write;
@@ -33,11 +33,16 @@ impl Program {
         if !named.is_empty() {
             return Ok(Self(named));
         }
+        Self::built("cadence")
+    }
+
+    /// The program of this name that the repository has built.
+    pub fn built(name: &str) -> Result<Self, String> {
         let root = Path::new(env!("CARGO_MANIFEST_DIR")).join("../..");
-        let program = root.join("target/bin/cadence");
+        let program = root.join("target/bin").join(name);
         if !program.is_file() {
             return Err(format!(
-                "{} is missing; expected the program that `rt check cadence` builds, run at the \
+                "{} is missing; expected the program that `rt check {name}` builds, run at the \
                  root of the repository",
                 program.display()
             ));

@@ -1,55 +1,39 @@
--- `readback::copy_bytes` meets its contract. The loop keeps `Filled` of the columns passed. Assumes nothing.
-use Prim.Native.Nat.{_-_}
-use mathlib.Core.Path.{refl}
-use native.Mathlib.Omega.{arith}
-use lib.ListN.{getD}
-use Rattle.laws.proofs.Lists.{Filled, fill-starts, fills}
-use Rattle.readback.proofs.General.{fill-lays}
+-- `readback::copy_bytes` meets its contract. Assumes nothing.
+use mathlib.Core.Path.{_∙_}
+use denote.Ref.{now}
 use borrow.Author.Needs.{needs}
+use Rattle.readback.proofs.General.{copy-lays}
 use Rattle.readback.proofs.copy_bytes.Statement.{statement}
 use Rattle.readback.proofs.copy_bytes.Tie as tie
 
-abbrev Inv-loop : tie.InvT-loop
-Inv-loop to₀ row width x₀ to x = Filled (λ x. getD row x 0) to₀ to x
+sub-copy-front : tie.Need-sub-copy-front
+sub-copy-front c = search needs
 
-abbrev μ-loop : tie.MeasureT-loop
-μ-loop to₀ row width x₀ to x = width - x
+part-copy-front-start : tie.Need-part-copy-front-start
+part-copy-front-start c = search needs
 
-loop-holds : tie.Need-loop-holds Inv-loop μ-loop
-loop-holds c = fill-starts
+part-copy-front-end : tie.Need-part-copy-front-end
+part-copy-front-end c = search needs
 
-shared-slice-read-to : tie.Need-shared-slice-read-to Inv-loop μ-loop
-shared-slice-read-to c = omega arith
+copy-front-requires : tie.Need-copy-front-requires
+copy-front-requires c κs = tt
 
-slice-write-to : tie.Need-slice-write-to Inv-loop μ-loop
-slice-write-to c = omega arith
-
-add-x : tie.Need-add-x Inv-loop μ-loop
-add-x c = omega arith
-
-loop-less : tie.Need-loop-less Inv-loop μ-loop
-loop-less c = omega arith
-
-loop-again : tie.Need-loop-again Inv-loop μ-loop
-loop-again c = fills (c .before .before .loop .inv) (omega arith) refl
-
-same-length : tie.Need-same-length Inv-loop μ-loop
+same-length : tie.Need-same-length
 same-length c = search needs
 
-returns : tie.Need-returns Inv-loop μ-loop
-returns c = fill-lays (c .before .loop .inv) (c .loop-test .left) (c .before .before .pre .target)
+returns : tie.Need-returns
+returns c =
+    let call = c .before .before in
+    let start = call .before .before .before .before .before in
+    call .copy-front .ensures ∙ copy-lays (now (start .args .to)) (now (start .args .row)) (start .args .width) 0 (start .pre .target) (start .pre .source)
 
 pub copy-bytes-spec : {M : Type 1} → statement M
 copy-bytes-spec =
     tie.close
     (tie.spec
-    Inv-loop
-    μ-loop
-    loop-holds
-    shared-slice-read-to
-    slice-write-to
-    add-x
-    loop-less
-    loop-again
+    sub-copy-front
+    part-copy-front-start
+    part-copy-front-end
+    copy-front-requires
     same-length
     returns)

@@ -3,7 +3,7 @@ use mathlib.Core.Path.{refl}
 use lib.ListN.{length}
 use denote.Ref.{now}
 use Rattle.readback.specs.Readback.{lumaShape, cbShape, crShape, crBytes}
-use Rattle.readback.proofs.General.{stays}
+use Rattle.laws.proofs.Refusal.{stays}
 use Rattle.readback.proofs.Passed.{FrameReady, frame-passed, copy-written}
 use borrow.Author.Needs.{needs}
 use Rattle.readback.proofs.frame_of_readback.Statement.{statement}

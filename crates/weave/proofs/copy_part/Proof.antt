@@ -1,39 +1,40 @@
 -- `weave::copy_part` meets its contract. Assumes nothing.
 use Prim.Native.Nat.{_+_, _-_}
-use mathlib.Core.Path.{_≡_}
+use mathlib.Core.Path.{_≡_, _∙_}
 use native.Mathlib.Omega.{arith}
 use lib.Seq.{drop-drop}
 use denote.Ref.{now}
 use borrow.Author.Needs.{needs}
+use Rattle.copy.proofs.Copied.{copied-part}
 use Rattle.weave.proofs.copy_part.Statement.{statement}
 use Rattle.weave.proofs.copy_part.Tie as tie
 
-add-copy-row : tie.Need-add-copy-row
-add-copy-row c = search needs
+add-copy-front : tie.Need-add-copy-front
+add-copy-front c = search needs
 
-sub-copy-row : tie.Need-sub-copy-row
-sub-copy-row c = search needs
+sub-copy-front : tie.Need-sub-copy-front
+sub-copy-front c = search needs
 
-part-copy-row-start : tie.Need-part-copy-row-start
-part-copy-row-start c = search needs
+part-copy-front-start : tie.Need-part-copy-front-start
+part-copy-front-start c = search needs
 
-part-copy-row-end : tie.Need-part-copy-row-end
-part-copy-row-end c = search needs
+part-copy-front-end : tie.Need-part-copy-front-end
+part-copy-front-end c = search needs
 
-add-copy-row-2 : tie.Need-add-copy-row-2
-add-copy-row-2 c = search needs
+add-copy-front-2 : tie.Need-add-copy-front-2
+add-copy-front-2 c = search needs
 
-sub-copy-row-2 : tie.Need-sub-copy-row-2
-sub-copy-row-2 c = search needs
+sub-copy-front-2 : tie.Need-sub-copy-front-2
+sub-copy-front-2 c = search needs
 
-part-copy-row-start-2 : tie.Need-part-copy-row-start-2
-part-copy-row-start-2 c = search needs
+part-copy-front-start-2 : tie.Need-part-copy-front-start-2
+part-copy-front-start-2 c = search needs
 
-part-copy-row-end-2 : tie.Need-part-copy-row-end-2
-part-copy-row-end-2 c = search needs
+part-copy-front-end-2 : tie.Need-part-copy-front-end-2
+part-copy-front-end-2 c = search needs
 
-copy-row-requires : tie.Need-copy-row-requires
-copy-row-requires c κs = search needs
+copy-front-requires : tie.Need-copy-front-requires
+copy-front-requires c κs = tt
 
 same-length : tie.Need-same-length
 same-length c = search needs
@@ -42,22 +43,23 @@ returns : tie.Need-returns
 returns c =
     let call = c .before .before in
     let a = call .before .before .before .before .before .args in
+    let pre = call .before .before .before .before .before .pre in
     let span : a .at + a .n - a .at ≡ a .n = omega arith in
-    let taken : a .from + a .n - a .from ≡ a .n = omega arith in
-    rw (call .copy-row .ensures, span, taken, drop-drop (a .n) (a .at) (now (a .dst)))
+    let part = call .copy-front .ensures ∙ copied-part (now (a .dst)) (now (a .src)) (a .at) (a .from) (a .n) (pre .0) (pre .1) in
+    rw (part, span, drop-drop (a .n) (a .at) (now (a .dst)))
 
 pub copy-part-spec : {M : Type 1} → statement M
 copy-part-spec =
     tie.close
     (tie.spec
-    add-copy-row
-    sub-copy-row
-    part-copy-row-start
-    part-copy-row-end
-    add-copy-row-2
-    sub-copy-row-2
-    part-copy-row-start-2
-    part-copy-row-end-2
-    copy-row-requires
+    add-copy-front
+    sub-copy-front
+    part-copy-front-start
+    part-copy-front-end
+    add-copy-front-2
+    sub-copy-front-2
+    part-copy-front-start-2
+    part-copy-front-end-2
+    copy-front-requires
     same-length
     returns)

@@ -5,9 +5,8 @@ use mathlib.Core.List.{[], _∷_}
 use lib.ListN.{length}
 use denote.Ref.{now}
 use Rattle.laws.specs.Refusal.{lowest}
-use Rattle.laws.proofs.Refusal.{written-done}
+use Rattle.laws.proofs.Refusal.{written-done, stays}
 use Rattle.weave.specs.Weave.{givenOf, weaveNo}
-use Rattle.weave.proofs.General.{kept}
 use Rattle.weave.proofs.Judged.{Ready, judged}
 use borrow.Author.Needs.{needs}
 use Rattle.weave.proofs.weave.Statement.{statement}
@@ -99,7 +98,7 @@ returns c =
     )
 
 returns-2 : tie.Need-returns-2
-returns-2 c = (number (c .before), (kept _ _ (c .if1 .left), (kept _ _ (c .if1 .left), kept _ _ (c .if1 .left))))
+returns-2 c = (number (c .before), (stays _ _ (c .if1 .left), (stays _ _ (c .if1 .left), stays _ _ (c .if1 .left))))
 
 pub weave-spec : {M : Type 1} → statement M
 weave-spec =

@@ -5,10 +5,9 @@ use mathlib.Core.List.{[]}
 use native.Mathlib.Omega.{arith}
 use lib.ListN.{length, take, drop}
 use denote.Ref.{now}
-use Rattle.laws.proofs.Refusal.{written-done}
+use Rattle.laws.proofs.Refusal.{written-done, stays}
 use Rattle.weave.specs.Weave.{lineBytes}
 use Rattle.weave.specs.Claims.{Matched}
-use Rattle.weave.proofs.General.{kept}
 use Rattle.weave.proofs.Fields.{same-size, top-ends, bottom-ends, top-line, bottom-line}
 use Rattle.weave.proofs.Judged.{line-judged}
 use borrow.Author.Needs.{needs}
@@ -127,7 +126,7 @@ returns-2 c =
     ∙ sym (bottom-line (now (a .top)) (a .top-lines) (now (a .bottom)) (a .bottom-lines) (a .y) (test .if2 .left)))
 
 returns-3 : tie.Need-returns-3
-returns-3 c = kept _ [] (λ z. c .before .if1 .left (c .before .before .line-no .ensures ∙ z))
+returns-3 c = stays _ [] (λ z. c .before .if1 .left (c .before .before .line-no .ensures ∙ z))
 
 pub woven-line-spec : {M : Type 1} → statement M
 woven-line-spec =

@@ -6,8 +6,7 @@ use native.Mathlib.Omega.{arith}
 use lib.ListN.{length, getD, drop}
 use denote.Ref.{now}
 use borrow.Author.Needs.{needs}
-use Rattle.laws.proofs.Lists.{Filled, fill-starts, fills}
-use Rattle.weave.proofs.General.{listed-again}
+use Rattle.laws.proofs.Lists.{listed-again, Filled, fill-starts, fills}
 use Rattle.weavedesk.proofs.copy.Statement.{statement}
 use Rattle.weavedesk.proofs.copy.Tie as tie
 

@@ -5,7 +5,7 @@ use native.Mathlib.Omega.{arith}
 use lib.Seq.{drop-drop}
 use denote.Ref.{now}
 use borrow.Author.Needs.{needs}
-use Rattle.weave.proofs.General.{part-length}
+use Rattle.laws.proofs.Lists.{part-length}
 use Rattle.weaver.proofs.pack_part.Statement.{statement}
 use Rattle.weaver.proofs.pack_part.Tie as tie
 

@@ -1,12 +1,12 @@
 -- `weaver::pack_plane` meets its contract. The loop keeps `Stacked` of the rows passed. Assumes nothing.
 use Prim.Native.Nat.{_+_, _-_, _*_, _≤_}
-use mathlib.Core.Path.{_≡_, refl, sym, _∙_}
+use mathlib.Core.Path.{refl, _∙_}
 use native.Mathlib.Omega.{arith}
 use lib.ListN.{length}
 use denote.Ref.{now}
 use borrow.Author.Needs.{needs}
 use Rattle.laws.proofs.Lists.{Stacked}
-use Rattle.weave.proofs.General.{part-length}
+use Rattle.copy.proofs.Copied.{copied-part}
 use Rattle.weaver.proofs.Packed.{packedRows, turn-ends, no-row, one-row, all-rows}
 use Rattle.weaver.proofs.pack_plane.Statement.{statement}
 use Rattle.weaver.proofs.pack_plane.Tie as tie
@@ -56,41 +56,32 @@ cast-from c = search needs
 mul-from : tie.Need-mul-from Inv-loop μ-loop
 mul-from c = omega (arith, turn (c .before))
 
-add-copy-row : tie.Need-add-copy-row Inv-loop μ-loop
-add-copy-row c = omega (arith, turn (c .before))
+add-copy-front : tie.Need-add-copy-front Inv-loop μ-loop
+add-copy-front c = omega (arith, turn (c .before))
 
-sub-copy-row : tie.Need-sub-copy-row Inv-loop μ-loop
-sub-copy-row c = omega arith
+sub-copy-front : tie.Need-sub-copy-front Inv-loop μ-loop
+sub-copy-front c = omega arith
 
-part-copy-row-start : tie.Need-part-copy-row-start Inv-loop μ-loop
-part-copy-row-start c = omega arith
+part-copy-front-start : tie.Need-part-copy-front-start Inv-loop μ-loop
+part-copy-front-start c = omega arith
 
-part-copy-row-end : tie.Need-part-copy-row-end Inv-loop μ-loop
-part-copy-row-end c = omega (arith, turn (c .before))
+part-copy-front-end : tie.Need-part-copy-front-end Inv-loop μ-loop
+part-copy-front-end c = omega (arith, turn (c .before))
 
-add-copy-row-2 : tie.Need-add-copy-row-2 Inv-loop μ-loop
-add-copy-row-2 c = omega (arith, turn (c .before .before))
+add-copy-front-2 : tie.Need-add-copy-front-2 Inv-loop μ-loop
+add-copy-front-2 c = omega (arith, turn (c .before .before))
 
-sub-copy-row-2 : tie.Need-sub-copy-row-2 Inv-loop μ-loop
-sub-copy-row-2 c = omega arith
+sub-copy-front-2 : tie.Need-sub-copy-front-2 Inv-loop μ-loop
+sub-copy-front-2 c = omega arith
 
-part-copy-row-start-2 : tie.Need-part-copy-row-start-2 Inv-loop μ-loop
-part-copy-row-start-2 c = omega arith
+part-copy-front-start-2 : tie.Need-part-copy-front-start-2 Inv-loop μ-loop
+part-copy-front-start-2 c = omega arith
 
-part-copy-row-end-2 : tie.Need-part-copy-row-end-2 Inv-loop μ-loop
-part-copy-row-end-2 c = omega (arith, turn (c .before .before))
+part-copy-front-end-2 : tie.Need-part-copy-front-end-2 Inv-loop μ-loop
+part-copy-front-end-2 c = omega (arith, turn (c .before .before))
 
-copy-row-requires : tie.Need-copy-row-requires Inv-loop μ-loop
-copy-row-requires c κs =
-    let test = c .before .before .before in
-    let l = test .before .before .loop in
-    let n = test .before .before .before .row-bytes .result in
-    let a = test .before .before .before .before .before .before .args in
-    let to = l .y * n in
-    let from = l .y * a .l .stride in
-    let span : to + n - to ≡ n = omega arith in
-    let taken : from + n - from ≡ n = omega arith in
-    rw (span, taken) (part-length (l .part) to n (turn test .0) ∙ sym (part-length (now (a .plane)) from n (turn test .1)))
+copy-front-requires : tie.Need-copy-front-requires Inv-loop μ-loop
+copy-front-requires c κs = tt
 
 add-y : tie.Need-add-y Inv-loop μ-loop
 add-y c = omega arith
@@ -105,8 +96,10 @@ loop-again c =
     let call = test .before .before .before in
     let start = call .before .before .before in
     let a = start .args in
-    one-row (now (a .plane)) (a .l) (length (now (a .part))) (start .pre) (call .row-bytes .result) (call .row-bytes .ensures .0) (test .before .before .loop .y)
-    (test .before .before .loop .inv) (test .if1 .taken) refl (copied .copy-row .ensures)
+    let l = test .before .before .loop in
+    let n = call .row-bytes .result in
+    let row = copied .copy-front .ensures ∙ copied-part (l .part) (now (a .plane)) (l .y * n) (l .y * a .l .stride) n (turn test .0) (turn test .1) in
+    one-row (now (a .plane)) (a .l) (length (now (a .part))) (start .pre) n (call .row-bytes .ensures .0) (l .y) (l .inv) (test .if1 .taken) refl row
 
 same-length : tie.Need-same-length Inv-loop μ-loop
 same-length c = search needs
@@ -132,15 +125,15 @@ pack-plane-spec =
     mul-at
     cast-from
     mul-from
-    add-copy-row
-    sub-copy-row
-    part-copy-row-start
-    part-copy-row-end
-    add-copy-row-2
-    sub-copy-row-2
-    part-copy-row-start-2
-    part-copy-row-end-2
-    copy-row-requires
+    add-copy-front
+    sub-copy-front
+    part-copy-front-start
+    part-copy-front-end
+    add-copy-front-2
+    sub-copy-front-2
+    part-copy-front-start-2
+    part-copy-front-end-2
+    copy-front-requires
     add-y
     loop-less
     loop-again

@@ -3,6 +3,7 @@
 use oracle::video::filter::Samples;
 
 use super::read::{self, Asked};
+use crate::answers::{Answer, Call};
 use crate::case::{Case, Difference, Failure, Least, Tally};
 use crate::judge;
 use crate::lent::one_place;
@@ -19,17 +20,24 @@ pub fn by_rust(samples: &Samples<'_>, x: i32, y: i32) -> f32 {
 #[derive(Debug, Clone)]
 struct At(Asked);
 
+impl At {
+    fn wanted(&self) -> Result<f32, u8> {
+        let Asked { given, x, y } = &self.0;
+        let (x, y) = (*x, *y);
+        match judge::at(given.shape, given.length, x, y) {
+            0 => Ok(by_rust(&read::samples(given), x, y)),
+            number => Err(number),
+        }
+    }
+}
+
 impl Case for At {
     fn compare(&self) -> Result<u8, Difference> {
         let Asked { given, x, y } = &self.0;
         let (x, y) = (*x, *y);
-        let wanted = match judge::at(given.shape, given.length, x, y) {
-            0 => Ok(by_rust(&read::samples(given), x, y)),
-            number => Err(number),
-        };
         one_place(
             |value| desk::at(given.lent(), given.shape, x, y, value),
-            wanted,
+            self.wanted(),
         )
     }
 
@@ -44,4 +52,14 @@ pub fn run(random: &mut Random) -> Result<Tally, Failure> {
         refused: 430_000,
     };
     Tally::of(NAME, least, read::cases(random, 4).map(At))
+}
+
+/// Answers of small planes, without an end.
+pub(crate) fn answers(random: Random) -> impl Iterator<Item = Answer> {
+    read::small(random, 4).map(|asked| {
+        let case = At(asked);
+        let wanted = case.wanted();
+        let number = wanted.err().unwrap_or(0);
+        case.0.answer(Call::At, number).float(wanted.ok())
+    })
 }

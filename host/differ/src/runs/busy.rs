@@ -12,6 +12,8 @@ use oracle::video::field::Cadence;
 use oracle::video::telecine::Detector;
 
 use super::film::{self, PATTERN, parity_named};
+use super::read;
+use crate::answers::{Answer, Call};
 use crate::case::{Case, Difference, Failure, Least, Tally, same, smaller_numbers};
 use crate::given::{self, Contents, Given};
 use crate::judge;
@@ -175,6 +177,18 @@ impl Blocks {
         judge::films::busy(shape, length, usize::MAX, 0) == 0
     }
 
+    /// The number, and busy and all blocks where it is 0.
+    fn wanted(&self, then: &[u8]) -> (u8, Option<Counts>) {
+        let shape = self.given.shape;
+        let number = judge::films::busy(shape, self.given.length, self.room, self.parity);
+        let counts = (number == 0).then(|| {
+            let now = film::kept_of(self.given.plane(), shape);
+            let size = (shape.width as usize, shape.height as usize);
+            by_reading(&now, then, size.0, size.1, self.parity)
+        });
+        (number, counts)
+    }
+
     fn store(&self) -> Vec<u8> {
         let mut store = match &self.store {
             Store::Noise(seed) => Random::new(*seed).bytes(self.room),
@@ -240,13 +254,8 @@ fn alter(kept: &mut [u8], (width, height): (usize, usize), random: &mut Random) 
 impl Case for Blocks {
     fn compare(&self) -> Result<u8, Difference> {
         let shape = self.given.shape;
-        let number = judge::films::busy(shape, self.given.length, self.room, self.parity);
         let then = self.store();
-        let wanted = (number == 0).then(|| {
-            let now = film::kept_of(self.given.plane(), shape);
-            let size = (shape.width as usize, shape.height as usize);
-            by_reading(&now, &then, size.0, size.1, self.parity)
-        });
+        let (number, wanted) = self.wanted(&then);
         let lent = Between::noise(&then);
         for pattern in PATTERNS {
             let mut places = [pattern; 5];
@@ -454,4 +463,47 @@ pub fn run(random: &mut Random) -> Result<Tally, Failure> {
         refused: 4_000,
     };
     Tally::of(NAME, least, others.chain(large).chain(refused))
+}
+
+/// Answers of small planes that the Rust itself confirms, without an end; one in
+/// four has something wrong.
+pub(crate) fn answers(mut random: Random) -> impl Iterator<Item = Answer> {
+    std::iter::repeat_with(move || {
+        let case = if random.one_in(4) {
+            spoilt(&mut random)
+        } else {
+            let (width, height) = size(&mut random);
+            let given = shaped(&mut random, width.min(50), height.min(20));
+            right(&mut random, given)
+        };
+        let then = case.store();
+        let (number, counts) = case.wanted(&then);
+        if let Some(counts) = counts {
+            let luma = film::luma_of(case.given.plane(), case.given.shape);
+            let below = Below {
+                luma: &luma,
+                depth: case.given.shape.depth,
+                then: &then,
+                parity: case.parity,
+            };
+            // To more busy blocks more bands must be added than are worth it.
+            if counts.0 > 3 {
+                return None;
+            }
+            below.confirm(counts).expect("the Rust counts alike");
+            if case.total {
+                below.confirm_total(counts).expect("the Rust counts alike");
+            }
+        }
+        let answer = Answer::of(Call::Busy)
+            .numbers(read::listed(case.given.shape))
+            .number(case.parity)
+            .gives(number)
+            .count(counts.map(|(busy, _)| busy))
+            .count(counts.map(|(_, total)| total))
+            .slice(&case.given.plane().data)
+            .slice(&then);
+        Some(answer)
+    })
+    .flatten()
 }

@@ -6,6 +6,7 @@ use std::collections::BTreeMap;
 use oracle::video::telecine::Detector;
 
 use super::film::{Film, SYMBOLS, Seen, cadence_number, parity_named};
+use crate::answers::{Answer, Call};
 use crate::case::{Case, Difference, Failure, Least, Tally, same, smaller_numbers};
 use crate::judge::films;
 use crate::lent::{Between, Guarded, PATTERNS};
@@ -90,8 +91,9 @@ impl std::fmt::Debug for Reel {
     }
 }
 
-impl Case for Reel {
-    fn compare(&self) -> Result<u8, Difference> {
+impl Reel {
+    /// The bytes of the entries, the number, and what is written.
+    fn wanted(&self) -> (Vec<u8>, u8, Vec<u8>) {
         let mut bytes = Vec::with_capacity(self.entries.len() * films::ENTRY);
         for entry in &self.entries {
             entry.write(&mut bytes);
@@ -103,6 +105,13 @@ impl Case for Reel {
             0 => by_rust(&self.entries[..bytes.len() / films::ENTRY]),
             _ => Vec::new(),
         };
+        (bytes, number, expected)
+    }
+}
+
+impl Case for Reel {
+    fn compare(&self) -> Result<u8, Difference> {
+        let (bytes, number, expected) = self.wanted();
         let lent = Between::noise(&bytes);
         for pattern in PATTERNS {
             let mut out = Guarded::<u8>::filled(pattern, self.out);
@@ -286,4 +295,22 @@ pub fn run(random: &mut Random) -> Result<Tally, Failure> {
     };
     let all = std::iter::once(none).chain(every).chain(short).chain(long);
     Tally::of(NAME, least, all.chain(refused))
+}
+
+/// Answers of reels of up to 120 entries, without an end; one in four has
+/// something wrong.
+pub(crate) fn answers(mut random: Random) -> impl Iterator<Item = Answer> {
+    std::iter::repeat_with(move || {
+        let reel = if random.one_in(4) {
+            spoilt(&mut random)
+        } else {
+            let length = random.between(0, 120);
+            random_reel(&mut random, length)
+        };
+        let (bytes, number, written) = reel.wanted();
+        Answer::of(Call::Cadences)
+            .gives(number)
+            .slice(&bytes)
+            .output(&written, reel.out)
+    })
 }

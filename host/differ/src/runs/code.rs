@@ -1,6 +1,7 @@
 //! `desk_code` against `Samples::code`.
 
 use super::read::{self, Asked};
+use crate::answers::{Answer, Call};
 use crate::case::{Case, Difference, Failure, Least, Tally};
 use crate::judge;
 use crate::lent::one_place;
@@ -11,21 +12,28 @@ pub const NAME: &str = "code";
 #[derive(Debug, Clone)]
 struct Code(Asked);
 
-impl Case for Code {
-    fn compare(&self) -> Result<u8, Difference> {
+impl Code {
+    fn wanted(&self) -> Result<u16, u8> {
         let Asked { given, x, y } = &self.0;
         let (x, y) = (*x, *y);
-        let wanted = match judge::code(given.shape, given.length, x, y) {
+        match judge::code(given.shape, given.length, x, y) {
             0 => {
                 // The Rust counts in wider types; its code has at most 16 bits.
                 let code = read::samples(given).code(x as usize, y as usize);
                 Ok(u16::try_from(code).expect("a code of two bytes"))
             }
             number => Err(number),
-        };
+        }
+    }
+}
+
+impl Case for Code {
+    fn compare(&self) -> Result<u8, Difference> {
+        let Asked { given, x, y } = &self.0;
+        let (x, y) = (*x, *y);
         one_place(
             |code| desk::code(given.lent(), given.shape, x, y, code),
-            wanted,
+            self.wanted(),
         )
     }
 
@@ -40,4 +48,14 @@ pub fn run(random: &mut Random) -> Result<Tally, Failure> {
         refused: 510_000,
     };
     Tally::of(NAME, least, read::cases(random, 8).map(Code))
+}
+
+/// Answers of small planes, without an end.
+pub(crate) fn answers(random: Random) -> impl Iterator<Item = Answer> {
+    read::small(random, 8).map(|asked| {
+        let case = Code(asked);
+        let wanted = case.wanted();
+        let number = wanted.err().unwrap_or(0);
+        case.0.answer(Call::Code, number).code(wanted.ok())
+    })
 }

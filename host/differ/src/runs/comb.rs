@@ -4,6 +4,8 @@ use desk::PlaneNumbers;
 use oracle::mediadecoder::video::Plane;
 use oracle::video::filter;
 
+use super::read;
+use crate::answers::{Answer, Call};
 use crate::case::{Case, Difference, Failure, Least, Tally, same};
 use crate::given::{self, Contents, Given};
 use crate::judge;
@@ -22,6 +24,16 @@ pub fn by_rust(plane: &Plane, depth: u8) -> u64 {
 #[derive(Debug, Clone)]
 struct Combed(Given);
 
+impl Combed {
+    fn wanted(&self) -> Result<u64, u8> {
+        let given = &self.0;
+        match judge::comb(given.shape, given.length) {
+            0 => Ok(by_rust(given.plane(), given.shape.depth as u8)),
+            number => Err(number),
+        }
+    }
+}
+
 impl Case for Combed {
     fn compare(&self) -> Result<u8, Difference> {
         let given = &self.0;
@@ -32,13 +44,9 @@ impl Case for Combed {
             stride,
             ..
         } = given.shape;
-        let wanted = match judge::comb(given.shape, given.length) {
-            0 => Ok(by_rust(given.plane(), depth as u8)),
-            number => Err(number),
-        };
         let number = one_place(
             |total| desk::comb(given.lent(), width, height, depth, stride, total),
-            wanted,
+            self.wanted(),
         )?;
         let kept = std::hint::black_box(given).lent() == given.plane().data;
         same("whether the lent plane is as it was", kept, true)?;
@@ -84,4 +92,18 @@ pub fn run(random: &mut Random) -> Result<Tally, Failure> {
         refused: 5_500,
     };
     Tally::of(NAME, least, large.into_iter().chain(others).map(Combed))
+}
+
+/// Answers of small planes, without an end.
+pub(crate) fn answers(mut random: Random) -> impl Iterator<Item = Answer> {
+    std::iter::repeat_with(move || {
+        let case = Combed(given::random(&mut random, 20, 8, 1));
+        let wanted = case.wanted();
+        let [width, height, depth, stride, _] = read::listed(case.0.shape);
+        Answer::of(Call::Comb)
+            .numbers([width, height, depth, stride])
+            .gives(wanted.err().unwrap_or(0))
+            .count(wanted.ok())
+            .slice(&case.0.plane().data)
+    })
 }

@@ -2,6 +2,7 @@
 
 use oracle::video::filter;
 
+use crate::answers::{Answer, Call};
 use crate::case::{Case, Difference, Failure, Least, Tally, same, smaller_numbers};
 use crate::given::{Contents, at_an_edge};
 use crate::judge;
@@ -30,6 +31,14 @@ impl Picture {
         self.contents.bytes(self.length, row, 8)
     }
 
+    fn wanted(&self, bytes: &[u8]) -> Result<u64, u8> {
+        let (width, height) = (self.width, self.height);
+        match judge::comb_rgba(width, height, self.length) {
+            0 => Ok(by_rust(bytes, width as usize, height as usize)),
+            number => Err(number),
+        }
+    }
+
     fn needed(width: u32, height: u32) -> i128 {
         i128::from(width) * i128::from(height) * 4
     }
@@ -40,13 +49,9 @@ impl Case for Picture {
         let (width, height) = (self.width, self.height);
         let bytes = self.bytes();
         let lent = Between::noise(&bytes);
-        let wanted = match judge::comb_rgba(width, height, self.length) {
-            0 => Ok(by_rust(&bytes, width as usize, height as usize)),
-            number => Err(number),
-        };
         let number = one_place(
             |total| desk::comb_rgba(lent.lent(), width, height, total),
-            wanted,
+            self.wanted(&bytes),
         )?;
         let kept = std::hint::black_box(&lent).lent() == bytes;
         same("whether the lent picture is as it was", kept, true)?;
@@ -140,4 +145,18 @@ pub fn run(random: &mut Random) -> Result<Tally, Failure> {
         refused: 2_400,
     };
     Tally::of(NAME, least, large.into_iter().chain(others))
+}
+
+/// Answers, without an end.
+pub(crate) fn answers(mut random: Random) -> impl Iterator<Item = Answer> {
+    std::iter::repeat_with(move || {
+        let case = random_picture(&mut random);
+        let bytes = case.bytes();
+        let wanted = case.wanted(&bytes);
+        Answer::of(Call::CombRgba)
+            .numbers([case.width, case.height])
+            .gives(wanted.err().unwrap_or(0))
+            .count(wanted.ok())
+            .slice(&bytes)
+    })
 }

@@ -16,6 +16,8 @@ use oracle::video::telecine::Detector;
 use super::film::{
     Film, Look, PATTERN, SYMBOLS, Seen, Shown, Symbol, cadence_number, parity_named,
 };
+use super::read;
+use crate::answers::{self, Answer, DETECTOR_ROOM, FILL, STORE_ROOM};
 use crate::case::{Case, Difference, Failure, Least, Tally, same, smaller_numbers};
 use crate::judge;
 use crate::judge::films::{self, MOST_FRAMES, STATE};
@@ -810,10 +812,14 @@ fn next_look(random: &mut Random, look: Look, moved: bool) -> Look {
 
 /// A film of pictures, among them some counts, resets, changes of size, refused
 /// calls, and frames four billion later.
-fn shown_film(random: &mut Random, length: u64) -> Calls {
+fn shown_film(
+    random: &mut Random,
+    length: u64,
+    shape_of: fn(&mut Random) -> PlaneNumbers,
+) -> Calls {
     let mut film = Film::new(random);
     let mut calls = Vec::new();
-    let mut shape = shape(random);
+    let mut shape = shape_of(random);
     let mut looks = [Look::flat(20), Look::flat(120)];
     let mut late = Lateness::default();
     let counted = random.one_in(3);
@@ -841,7 +847,7 @@ fn shown_film(random: &mut Random, length: u64) -> Calls {
         if random.one_in(restless) {
             match random.below(6) {
                 0 => match random.below(4) {
-                    0 => shape = self::shape(random),
+                    0 => shape = shape_of(random),
                     1 => shape.height = (shape.height + random.below(3) as u32).max(2) - 1,
                     2 => shape.width = (shape.width + random.below(3) as u32).max(2) - 1,
                     _ => shape.depth = random.between(8, 16) as u32,
@@ -897,7 +903,7 @@ pub fn run(random: &mut Random) -> Result<Tally, Failure> {
         every(locking_after(kept, step), alphabet_of_pictures(), 3)
     });
     let counts = (0..400).map(move |_| measured_film(&mut for_measured, 1_000));
-    let pictures = (0..600).map(move |_| shown_film(&mut for_shown, 100));
+    let pictures = (0..600).map(move |_| shown_film(&mut for_shown, 100, shape));
     let least = Least {
         accepted: 1_400_000,
         refused: 90_000,
@@ -987,7 +993,270 @@ pub fn many(random: &mut Random) -> Result<Tally, Failure> {
     let mut tally = Tally::of(NAME, least(50_000_000), sequences)?;
     let counts = (0..5_400).map(move |_| measured_film(&mut for_measured, 10_000));
     tally.add(Tally::of(NAME, least(51_000_000), counts)?);
-    let pictures = (0..5_000).map(move |_| shown_film(&mut for_shown, 200));
+    let pictures = (0..5_000).map(move |_| shown_film(&mut for_shown, 200, shape));
     tally.add(Tally::of(NAME, least(900_000), pictures)?);
     Ok(tally)
+}
+
+// ---- Answers
+
+/// The Rust's detector alone, and what the program `replay` has to find: its
+/// store goes on from one detector to the next.
+struct Recorder {
+    rust: Detector,
+    store: Vec<u8>,
+    /// Samples of the kept frame; 0 for none.
+    kept: usize,
+    taken: u64,
+    found: Vec<Answer>,
+}
+
+impl Recorder {
+    fn new() -> Self {
+        Self {
+            rust: Detector::new(),
+            store: vec![FILL; STORE_ROOM],
+            kept: 0,
+            taken: 0,
+            found: Vec::new(),
+        }
+    }
+
+    fn fresh(&mut self, state: usize) {
+        let number = films::detector_new(state);
+        if number == 0 {
+            self.rust = Detector::new();
+            self.kept = 0;
+            self.taken = 0;
+        }
+        let answer = Answer::of(answers::Call::DetectorNew);
+        self.found.push(answer.number(state as u64).gives(number));
+    }
+
+    fn locked(&mut self, state: usize) {
+        let number = films::detector_read(state);
+        let locked = (number == 0).then(|| self.rust.locked().into());
+        let answer = Answer::of(answers::Call::DetectorLocked);
+        let answer = answer.number(state as u64).gives(number).byte(locked);
+        self.found.push(answer);
+    }
+
+    fn predict(&mut self, state: usize, ahead: u64) {
+        let number = films::detector_predict(state, ahead);
+        let cadence = (number == 0).then(|| cadence_number(self.rust.predict(ahead)));
+        let answer = Answer::of(answers::Call::DetectorPredict);
+        let answer = answer.number(state as u64).number(ahead);
+        self.found.push(answer.gives(number).byte(cadence));
+    }
+
+    fn take(&mut self, call: &Call, room: usize) {
+        match *call {
+            Call::Push {
+                parity,
+                ref shown,
+                store,
+                state,
+            } => {
+                let state = state.min(DETECTOR_ROOM);
+                let store = store.min(room);
+                let lent = (shown.shape, shown.length);
+                let number =
+                    films::detector_push(state, parity, lent, store, self.kept, self.taken);
+                let cadence = (number == 0).then(|| {
+                    let (frame, kept) = shown.rust(parity);
+                    self.store[..kept.len()].copy_from_slice(kept);
+                    self.kept = kept.len();
+                    self.taken += 1;
+                    cadence_number(self.rust.push(frame))
+                });
+                let answer = Answer::of(answers::Call::DetectorPush)
+                    .number(state as u64)
+                    .number(parity)
+                    .numbers(read::listed(shown.shape))
+                    .gives(number)
+                    .byte(cadence)
+                    .slice(shown.lent())
+                    .slice(&self.store[..store]);
+                self.found.push(answer);
+            }
+            Call::Measured {
+                parity,
+                present,
+                numbers: [busy, total, other_busy, other_total],
+                state,
+            } => {
+                let state = state.min(DETECTOR_ROOM);
+                let number = films::detector_push_measured(state, parity, present, self.taken);
+                let cadence = (number == 0).then(|| {
+                    let measured = (present == 1).then_some((
+                        (busy as usize, total as usize),
+                        (other_busy as usize, other_total as usize),
+                    ));
+                    self.taken += 1;
+                    cadence_number(self.rust.push_measured(parity_named(parity), measured))
+                });
+                let answer = Answer::of(answers::Call::DetectorPushMeasured)
+                    .number(state as u64)
+                    .number(parity)
+                    .number(present)
+                    .number(busy)
+                    .number(total)
+                    .number(other_busy)
+                    .number(other_total)
+                    .gives(number)
+                    .byte(cadence);
+                self.found.push(answer);
+            }
+            Call::Reset { state } => {
+                let state = state.min(DETECTOR_ROOM);
+                let number = films::detector_read(state);
+                if number == 0 {
+                    self.rust.reset();
+                    self.kept = 0;
+                    self.taken = 0;
+                }
+                let answer = Answer::of(answers::Call::DetectorReset);
+                self.found.push(answer.number(state as u64).gives(number));
+            }
+            // How a state's bytes stand for its numbers is the desk's own affair.
+            Call::Late(_) => {}
+        }
+    }
+
+    /// A fresh detector, the calls, now and then what it foretells, and a reset.
+    fn film(&mut self, random: &mut Random, film: &Calls) {
+        if random.one_in(4) {
+            self.fresh(random.below(STATE as u64) as usize);
+        }
+        self.fresh(STATE + random.below(6) as usize);
+        let room = film.room().min(STORE_ROOM);
+        for call in &film.calls {
+            self.take(call, room);
+            if random.one_in(16) {
+                self.take(&refused_measured(random), room);
+            }
+            if let Call::Push { parity, shown, .. } = call
+                && random.one_in(10)
+            {
+                self.take(&refused_push(random, parity % 2, shown), room);
+            }
+            let short = *random.pick(&[0, 1, 100, STATE - 1]);
+            let state = if random.one_in(12) { short } else { STATE };
+            match random.below(8) {
+                0 | 1 => self.locked(state),
+                2 | 3 => self.predict(state, *random.pick(&AHEAD)),
+                4 if random.one_in(6) => {
+                    let ahead = *random.pick(&[1_000_001, 1 << 32, u64::MAX]);
+                    self.predict(state, ahead);
+                }
+                _ => {}
+            }
+        }
+        self.take(&RESET, 0);
+        self.locked(STATE);
+        self.predict(STATE, 3);
+    }
+}
+
+/// How many frames of a film belong to a cadence.
+fn cadenced(film: &Calls) -> usize {
+    let mut recorder = Recorder::new();
+    let room = film.room().min(STORE_ROOM);
+    film.calls.iter().for_each(|call| recorder.take(call, room));
+    let belongs = |answer: &&Answer| {
+        use answers::Call::{DetectorPush, DetectorPushMeasured};
+        let frame = matches!(answer.call, DetectorPush | DetectorPushMeasured);
+        frame && answer.gives == 0 && answer.last() != Some(0)
+    };
+    recorder.found.iter().filter(belongs).count()
+}
+
+/// Small shapes whose fields have four blocks or more, and one of a single row.
+fn small_shape(random: &mut Random) -> PlaneNumbers {
+    let sizes = [(49, 2), (64, 2), (50, 3), (3, 50), (17, 18), (64, 1)];
+    let (width, height) = *random.pick(&sizes);
+    let mut shape = PlaneNumbers {
+        width,
+        height,
+        ..shape(random)
+    };
+    shape.stride = judge::row(shape) as u32 + *random.pick(&[0, 0, 1, 5]);
+    shape
+}
+
+/// A film of small pictures, some counts among them. What a frame shows is plain:
+/// a field moves in all blocks or in at most one.
+fn plain_film(random: &mut Random, length: usize) -> Calls {
+    let mut film = Film::new(random);
+    let mut calls = Vec::new();
+    let mut shape = small_shape(random);
+    let mut looks = [Look::flat(20), Look::flat(120)];
+    while calls.len() < length {
+        let seen = film.next(random);
+        let Some(symbol) = seen.symbol.filter(|_| !random.one_in(12)) else {
+            calls.push(random_measured(random, seen));
+            continue;
+        };
+        let [leading, trailing] = [seen.first, 1 - seen.first].map(usize::from);
+        for (field, moved) in [leading, trailing].into_iter().zip(symbol.usual()) {
+            let Look { level, .. } = looks[field];
+            looks[field] = if moved > 0 {
+                Look::flat(level.wrapping_add(*random.pick(&[9, 100, 128, 247])))
+            } else {
+                Look {
+                    level,
+                    blocks: random.below(2) as u32,
+                    samples: 128,
+                    more: *random.pick(&[8, 9, 200]),
+                }
+            };
+        }
+        let needed = judge::needed(shape) as usize;
+        let more = *random.pick(&[0, 0, 1]);
+        let shown = Shown::new(shape, needed + more, looks, random.next());
+        calls.push(push(seen.first, &Rc::new(shown)));
+        if random.one_in(40) {
+            shape = small_shape(random);
+        }
+    }
+    Calls::new(calls)
+}
+
+/// Films of counts and of pictures with splices, stills, resets, changes of the
+/// leading field and of the size, and refused calls: of each kind those in which
+/// a third of the frames or more belong to a cadence, and a few others. Then a
+/// lock from every step, ended by the twelfth still, and short runs of any calls.
+pub(crate) fn answers(mut random: Random) -> Vec<Answer> {
+    let random = &mut random;
+    let mut recorder = Recorder::new();
+    for kind in 0..11 {
+        let film = loop {
+            let film = if kind < 5 {
+                measured_film(random, 80)
+            } else {
+                plain_film(random, 40)
+            };
+            if 3 * cadenced(&film) >= film.calls.len() {
+                break film;
+            }
+        };
+        recorder.film(random, &film);
+    }
+    for _ in 0..2 {
+        let film = measured_film(random, 40);
+        recorder.film(random, &film);
+        let film = shown_film(random, 30, small_shape);
+        recorder.film(random, &film);
+    }
+    for step in 0..5 {
+        let mut calls = locking(step, step);
+        calls.extend((0..12).map(|_| measured(0, Symbol::Still)));
+        recorder.film(random, &Calls::new(calls));
+    }
+    let letters = alphabet();
+    for _ in 0..14 {
+        let calls = (0..6).map(|_| random.pick(&letters).clone()).collect();
+        recorder.film(random, &Calls::new(calls));
+    }
+    recorder.found
 }

@@ -5,6 +5,7 @@ use std::rc::Rc;
 use oracle::video::filter;
 
 use super::read::{self, Asked};
+use crate::answers::{Answer, Call};
 use crate::case::{Case, Difference, Failure, Least, Tally};
 use crate::given::{self, Contents};
 use crate::judge;
@@ -16,17 +17,24 @@ pub const NAME: &str = "edge";
 #[derive(Debug, Clone)]
 struct Edge(Asked);
 
+impl Edge {
+    fn wanted(&self) -> Result<i32, u8> {
+        let Asked { given, x, y } = &self.0;
+        let (x, y) = (*x, *y);
+        match judge::edge(given.shape, given.length, x, y) {
+            0 => Ok(filter::edge(&read::samples(given), x, y)),
+            number => Err(number),
+        }
+    }
+}
+
 impl Case for Edge {
     fn compare(&self) -> Result<u8, Difference> {
         let Asked { given, x, y } = &self.0;
         let (x, y) = (*x, *y);
-        let wanted = match judge::edge(given.shape, given.length, x, y) {
-            0 => Ok(filter::edge(&read::samples(given), x, y)),
-            number => Err(number),
-        };
         one_place(
             |slant| desk::edge(given.lent(), given.shape, x, y, slant),
-            wanted,
+            self.wanted(),
         )
     }
 
@@ -55,4 +63,21 @@ pub fn run(random: &mut Random) -> Result<Tally, Failure> {
         refused: 150_000,
     };
     Tally::of(NAME, least, tiny.chain(large).chain(others).map(Edge))
+}
+
+/// Answers of small planes with pictures in which directions tie, without an
+/// end.
+pub(crate) fn answers(mut random: Random) -> impl Iterator<Item = Answer> {
+    std::iter::repeat_with(move || {
+        let mut given = given::random(&mut random, 16, 8, 4);
+        given.contents = Contents::picture(&mut random, given.shape);
+        read::asked_of(&mut random, Rc::new(given), 2, OUTSIDE_IN)
+    })
+    .flatten()
+    .map(|asked| {
+        let case = Edge(asked);
+        let wanted = case.wanted();
+        let number = wanted.err().unwrap_or(0);
+        case.0.answer(Call::Edge, number).slant(wanted.ok())
+    })
 }

@@ -7,6 +7,7 @@ use desk::{FieldNumbers, LinesNumbers, PlaneNumbers};
 use oracle::mediadecoder::es::Format;
 use oracle::mediadecoder::video::Frame;
 
+use crate::answers::Answer;
 use crate::case::{Difference, same, smaller_numbers};
 use crate::given::{Contents, EDGES_OF_WIDTH, Given, edge_of};
 use crate::judge::weaves::half;
@@ -232,4 +233,27 @@ pub fn affordable(random: &mut Random, needed: u64, more: u64) -> usize {
         return random.between(0, 256) as usize;
     }
     (needed + more) as usize
+}
+
+/// The numbers of a plane's lines in their order.
+pub fn listed(shape: PlaneNumbers) -> [u32; 4] {
+    let LinesNumbers {
+        width,
+        height,
+        depth,
+        stride,
+    } = lines(shape);
+    [width, height, depth, stride]
+}
+
+impl Field {
+    /// The answer with the numbers and the bytes of the three planes added.
+    pub fn answer(&self, mut answer: Answer) -> Answer {
+        for given in &self.0 {
+            answer = answer
+                .numbers(listed(given.shape))
+                .slice(&given.plane().data);
+        }
+        answer
+    }
 }

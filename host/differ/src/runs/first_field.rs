@@ -4,6 +4,7 @@ use oracle::decode::About;
 use oracle::mediadecoder::es::Structure;
 use oracle::video::field;
 
+use crate::answers::{Answer, Call};
 use crate::case::{Case, Difference, Failure, Least, Tally, same, smaller_numbers};
 use crate::lent::Guarded;
 use crate::random::Random;
@@ -92,4 +93,20 @@ pub fn run(_: &mut Random) -> Result<Tally, Failure> {
         refused: 2 * 256 * 256 - accepted,
     };
     Tally::of(NAME, least, cases)
+}
+
+/// Every input that is answered, and some codes that name nothing.
+pub(crate) fn answers() -> impl Iterator<Item = Answer> {
+    let codes = [0, 1, 2, 3, 4, 128, 255];
+    codes.into_iter().flat_map(move |structure| {
+        codes.into_iter().map(move |top_field_first| {
+            let mut parity = 0;
+            let number = by_rust(structure, top_field_first, &mut parity);
+            Answer::of(Call::FirstField)
+                .number(structure)
+                .number(top_field_first)
+                .gives(number)
+                .byte((number == 0).then_some(parity))
+        })
+    })
 }

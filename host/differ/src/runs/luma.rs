@@ -2,6 +2,7 @@
 
 use oracle::video::colour::Primaries;
 
+use crate::answers::{Answer, Call};
 use crate::case::{Case, Difference, Failure, Least, Tally, smaller_numbers};
 use crate::lent::three_places;
 use crate::random::Random;
@@ -11,17 +12,22 @@ pub const NAME: &str = "luma";
 #[derive(Debug, Clone)]
 struct Code(u8);
 
-impl Case for Code {
-    fn compare(&self) -> Result<u8, Difference> {
-        let wanted = match self.0 {
+impl Code {
+    fn wanted(&self) -> Result<[f32; 3], u8> {
+        match self.0 {
             0 => Ok(Primaries::Bt709.luma()),
             1 => Ok(Primaries::Bt2020.luma()),
             // Document 01's table: "a code names nothing".
             _ => Err(3),
-        };
+        }
+    }
+}
+
+impl Case for Code {
+    fn compare(&self) -> Result<u8, Difference> {
         three_places(
             |red, green, blue| desk::luma(self.0, red, green, blue),
-            wanted,
+            self.wanted(),
         )
     }
 
@@ -39,4 +45,18 @@ pub fn run(_: &mut Random) -> Result<Tally, Failure> {
         refused: 254,
     };
     Tally::of(NAME, least, (0..=u8::MAX).map(Code))
+}
+
+/// Every code that names something, and some others.
+pub(crate) fn answers() -> impl Iterator<Item = Answer> {
+    [0, 1, 2, 3, 128, 255].into_iter().map(|code: u8| {
+        let wanted = Code(code).wanted();
+        let value = |at: usize| wanted.ok().map(|weights| weights[at]);
+        Answer::of(Call::Luma)
+            .number(code)
+            .gives(wanted.err().unwrap_or(0))
+            .float(value(0))
+            .float(value(1))
+            .float(value(2))
+    })
 }

@@ -16,6 +16,7 @@ use oracle::video::{Deinterlace, Settings};
 use super::read;
 use super::to_rgb::{self, Nine};
 use super::trio::{self, Draft, quality_named};
+use crate::answers::{Answer, Call};
 use crate::case::{Case, Difference, Failure, Least, Tally, same, smaller_numbers};
 use crate::given::{Contents, Given};
 use crate::judge::{self, Lent};
@@ -179,6 +180,16 @@ struct Picture {
 }
 
 impl Picture {
+    /// The number, and what is written.
+    fn wanted(&self) -> (u8, Vec<u8>) {
+        let conversion = to_rgb::for_desk(self.colours.nine());
+        let lent = self.frames.each_ref().map(Frame::lent);
+        match judge::pictures::picture(self.quality, self.output, conversion, lent, self.out) {
+            0 => (0, self.rust()),
+            number => (number, Vec::new()),
+        }
+    }
+
     fn rust(&self) -> Vec<u8> {
         let planes = self.frames.each_ref().map(Frame::planes);
         let output = output_named(self.output);
@@ -206,13 +217,7 @@ impl Picture {
 impl Case for Picture {
     fn compare(&self) -> Result<u8, Difference> {
         let conversion = to_rgb::for_desk(self.colours.nine());
-        let lent = self.frames.each_ref().map(Frame::lent);
-        let number =
-            judge::pictures::picture(self.quality, self.output, conversion, lent, self.out);
-        let expected = match number {
-            0 => self.rust(),
-            _ => Vec::new(),
-        };
+        let (number, expected) = self.wanted();
         let [previous, current, following] = &self.frames;
         for pattern in PATTERNS {
             let mut out = Guarded::<u8>::filled(pattern, self.out);
@@ -586,4 +591,46 @@ pub fn run(random: &mut Random) -> Result<Tally, Failure> {
         least,
         outputs.chain(large).chain(others).chain(refused),
     )
+}
+
+/// Answers of small pictures, without an end; one in four has something wrong.
+/// The colours are the Rust's own, not adjusted, or random.
+pub(crate) fn answers(mut random: Random) -> impl Iterator<Item = Answer> {
+    std::iter::repeat_with(move || {
+        let random = &mut random;
+        let mut case = if random.one_in(4) {
+            spoilt(random)
+        } else {
+            let (width, height, depth) = size(random);
+            let three = frames(random, (width.min(11), height.min(9), depth), None);
+            right(random, depth, three)
+        };
+        // As of `to_rgb`: no sine, but what is wrong stays.
+        if let Colours::Listed(nine) = case.colours
+            && judge::to_rgb(to_rgb::for_desk(nine), [0.0; 3]) == 0
+        {
+            case.colours = Colours::Listed(if random.one_in(2) {
+                to_rgb::plain_by_rust(random)
+            } else {
+                to_rgb::random_nine(random)
+            });
+        }
+        let OutputNumbers {
+            field,
+            weave,
+            earlier,
+            later,
+        } = case.output;
+        let (number, written) = case.wanted();
+        let mut answer = Answer::of(Call::Picture)
+            .number(case.quality)
+            .numbers([field, weave, earlier, later])
+            .floats(case.colours.nine());
+        for given in case.frames.iter().flat_map(|frame| &frame.0) {
+            answer = answer
+                .numbers(read::listed(given.shape))
+                .slice(&given.plane().data);
+        }
+        answer.gives(number).output(&written, case.out)
+    })
 }

@@ -5,6 +5,7 @@ use oracle::video::filter::{self, Samples};
 
 use super::read::numbers;
 use super::trio::{self, Trio, quality_named};
+use crate::answers::{Answer, Call};
 use crate::case::{Case, Difference, Failure, Least, Tally, same, smaller_numbers};
 use crate::judge;
 use crate::lent::{Guarded, PATTERNS};
@@ -32,8 +33,9 @@ struct Whole {
     trio: Trio,
 }
 
-impl Case for Whole {
-    fn compare(&self) -> Result<u8, Difference> {
+impl Whole {
+    /// The number, and what is written.
+    fn wanted(&self) -> (u8, Vec<f32>) {
         let Self {
             quality,
             first,
@@ -45,6 +47,19 @@ impl Case for Whole {
             0 => by_rust(quality_named(quality), &trio.samples(), first.into()),
             _ => Vec::new(),
         };
+        (number, expected)
+    }
+}
+
+impl Case for Whole {
+    fn compare(&self) -> Result<u8, Difference> {
+        let Self {
+            quality,
+            first,
+            out,
+            ref trio,
+        } = *self;
+        let (number, expected) = self.wanted();
         let [before, cur, after] = &trio.0;
         for pattern in PATTERNS {
             let mut lent = Guarded::filled(pattern, out);
@@ -182,3 +197,23 @@ const WIDE: [(u8, [desk::PlaneNumbers; 3]); 6] = [
     (0, [numbers(8192, 3, 12, 16_384, 0); 3]),
     (2, [numbers(2, 4352, 9, 4, 0); 3]),
 ];
+
+/// Answers of small planes, without an end; one in four has something wrong.
+pub(crate) fn answers(mut random: Random) -> impl Iterator<Item = Answer> {
+    std::iter::repeat_with(move || {
+        let case = if random.one_in(4) {
+            spoilt(&mut random)
+        } else {
+            let trio = trio::random(&mut random, 14, 9, true);
+            right(&mut random, trio)
+        };
+        let (number, written) = case.wanted();
+        let front = Answer::of(Call::Plane)
+            .number(case.quality)
+            .number(case.first);
+        case.trio
+            .answer(front)
+            .gives(number)
+            .float_output(&written, case.out)
+    })
+}

@@ -3,6 +3,7 @@
 
 use oracle::video::colour;
 
+use crate::answers::{Answer, Call};
 use crate::case::{Case, Difference, Failure, Least, Tally, same, smaller_numbers};
 use crate::random::Random;
 
@@ -143,4 +144,21 @@ pub fn every(_: &mut Random) -> Result<Tally, Failure> {
         refused: 0,
     };
     Tally::of(NAME, least, all_in_steps(1))
+}
+
+/// Answers of floats near a threshold and of any, without an end.
+pub(crate) fn answers(mut random: Random) -> impl Iterator<Item = Answer> {
+    let near: Vec<Floats> = thresholds().collect();
+    std::iter::repeat_with(move || {
+        let value = if random.one_in(4) {
+            random.any_float()
+        } else {
+            let Floats { first, count, .. } = random.pick(&near);
+            let middle = first.wrapping_add(count / 2);
+            f32::from_bits(middle.wrapping_add(random.below(5) as u32).wrapping_sub(2))
+        };
+        Answer::of(Call::Quantise)
+            .floats([value])
+            .number(by_rust(value))
+    })
 }

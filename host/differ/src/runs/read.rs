@@ -5,6 +5,7 @@ use std::rc::Rc;
 use desk::PlaneNumbers;
 use oracle::video::filter::{Planes, Samples};
 
+use crate::answers::{Answer, Call};
 use crate::case::smaller_numbers;
 use crate::given::{self, Contents, Given};
 use crate::judge;
@@ -201,5 +202,38 @@ pub fn coordinate(random: &mut Random, size: u32, outside_in: u64) -> i32 {
         5 => *random.pick(&[65_533, 65_534, 65_535, -65_535]),
         6 => random.between(0, 2 * 65_536) as i32 - 65_536,
         _ => random.next() as i32,
+    }
+}
+
+/// The numbers of a shape in their order.
+pub fn listed(shape: PlaneNumbers) -> [u32; 5] {
+    let PlaneNumbers {
+        width,
+        height,
+        depth,
+        stride,
+        layout,
+    } = shape;
+    [width, height, depth, stride, layout]
+}
+
+/// What is asked of small planes, without an end.
+pub fn small(mut random: Random, outside_in: u64) -> impl Iterator<Item = Asked> {
+    std::iter::repeat_with(move || {
+        let given = Rc::new(given::random(&mut random, 12, 8, 4));
+        asked_of(&mut random, given, 2, outside_in)
+    })
+    .flatten()
+}
+
+impl Asked {
+    /// The front of the answer: what is asked, and the number that it gives.
+    pub fn answer(&self, call: Call, number: u8) -> Answer {
+        Answer::of(call)
+            .numbers(listed(self.given.shape))
+            .signed(self.x)
+            .signed(self.y)
+            .gives(number)
+            .slice(&self.given.plane().data)
     }
 }

@@ -10,6 +10,7 @@ use oracle::mediadecoder::es::Format;
 use oracle::mediadecoder::video::Frame;
 
 use super::fields::{self, affordable};
+use crate::answers::{Answer, Call};
 use crate::case::{Case, Difference, Failure, Least, Tally, same, smaller_numbers};
 use crate::given::{Contents, EDGES_OF_HEIGHT, EDGES_OF_WIDTH, Given, edge_of};
 use crate::judge;
@@ -47,6 +48,10 @@ struct Read {
 }
 
 impl Read {
+    fn number(&self) -> u8 {
+        judge::weaves::readback(self.about, self.lengths(), self.outs)
+    }
+
     fn lengths(&self) -> [usize; 3] {
         self.planes.each_ref().map(|given| given.length)
     }
@@ -73,7 +78,7 @@ impl Read {
 
 impl Case for Read {
     fn compare(&self) -> Result<u8, Difference> {
-        let number = judge::weaves::readback(self.about, self.lengths(), self.outs);
+        let number = self.number();
         let expected = match number {
             0 => self
                 .by_rust()
@@ -340,4 +345,45 @@ pub fn run(random: &mut Random) -> Result<Tally, Failure> {
         refused: 6_000,
     };
     Tally::of(NAME, least, large.chain(others).chain(refused))
+}
+
+/// Answers of small frames, without an end; one in three has something wrong.
+pub(crate) fn answers(mut random: Random) -> impl Iterator<Item = Answer> {
+    std::iter::repeat_with(move || {
+        let read = if random.one_in(3) {
+            spoilt(&mut random)
+        } else {
+            let planes = random.between(2, 3) as u32;
+            let (width, height, depth) = fields::size(&mut random, 14, 9);
+            Draft::of(&mut random, planes, width, height, depth).read(&mut random)
+        };
+        let number = read.number();
+        let written = match number {
+            0 => {
+                let frame = read.by_rust().expect("the Rust takes planes that suffice");
+                frame.planes.map(|plane| plane.data)
+            }
+            _ => Default::default(),
+        };
+        let ReadbackNumbers {
+            planes,
+            width,
+            height,
+            depth,
+            luma_pitch,
+            second_pitch,
+            third_pitch,
+        } = read.about;
+        let mut answer = Answer::of(Call::Readback)
+            .numbers([planes, width, height, depth])
+            .numbers([luma_pitch, second_pitch, third_pitch])
+            .gives(number);
+        for given in &read.planes {
+            answer = answer.slice(&given.plane().data);
+        }
+        for (written, lent) in written.iter().zip(read.outs) {
+            answer = answer.output(written, lent);
+        }
+        answer
+    })
 }

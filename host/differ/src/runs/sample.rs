@@ -7,6 +7,7 @@ use oracle::video::filter::{self, Rows, Samples};
 
 use super::read::{self, nearer_to_nought, numbers};
 use super::trio::{self, Trio, quality_named};
+use crate::answers::{Answer, Call};
 use crate::case::{Case, Difference, Failure, Least, Tally, smaller_numbers};
 use crate::judge;
 use crate::lent::one_place;
@@ -37,6 +38,26 @@ struct Sample {
     trio: Rc<Trio>,
 }
 
+impl Sample {
+    fn wanted(&self) -> Result<f32, u8> {
+        let Self {
+            quality,
+            first,
+            mate,
+            x,
+            y,
+            ref trio,
+        } = *self;
+        match judge::sample(quality, trio.lent(), first, mate, x, y) {
+            0 => {
+                let rows = Rows { first, mate };
+                Ok(by_rust(quality_named(quality), &trio.samples(), rows, x, y))
+            }
+            number => Err(number),
+        }
+    }
+}
+
 impl Case for Sample {
     fn compare(&self) -> Result<u8, Difference> {
         let Self {
@@ -47,13 +68,6 @@ impl Case for Sample {
             y,
             ref trio,
         } = *self;
-        let wanted = match judge::sample(quality, trio.lent(), first, mate, x, y) {
-            0 => {
-                let rows = Rows { first, mate };
-                Ok(by_rust(quality_named(quality), &trio.samples(), rows, x, y))
-            }
-            number => Err(number),
-        };
         let [before, cur, after] = &trio.0;
         one_place(
             |value| {
@@ -72,7 +86,7 @@ impl Case for Sample {
                     value,
                 )
             },
-            wanted,
+            self.wanted(),
         )
     }
 
@@ -219,3 +233,19 @@ const LARGE: [[desk::PlaneNumbers; 3]; 4] = [
         numbers(720, 480, 10, 2880, 3),
     ],
 ];
+
+/// Answers of small planes, without an end; one in four has something wrong.
+pub(crate) fn answers(mut random: Random) -> impl Iterator<Item = Answer> {
+    std::iter::repeat_with(move || {
+        let whole = !random.one_in(4);
+        let trio = Rc::new(trio::random(&mut random, 12, 8, whole));
+        let case = asked(&mut random, &trio);
+        let wanted = case.wanted();
+        trio.answer(Answer::of(Call::Sample).number(case.quality))
+            .numbers([case.first, case.mate])
+            .signed(case.x)
+            .signed(case.y)
+            .gives(wanted.err().unwrap_or(0))
+            .float(wanted.ok())
+    })
+}

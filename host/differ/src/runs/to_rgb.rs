@@ -3,6 +3,7 @@
 use desk::Conversion;
 use oracle::video::colour::{self, Adjust, Matrix};
 
+use crate::answers::{Answer, Call};
 use crate::case::{Case, Difference, Failure, Least, Tally};
 use crate::judge;
 use crate::lent::three_places;
@@ -82,17 +83,23 @@ struct Coloured {
     samples: [f32; 3],
 }
 
+impl Coloured {
+    fn wanted(&self) -> Result<[f32; 3], u8> {
+        let [y, cb, cr] = self.samples;
+        match judge::to_rgb(for_desk(self.nine), self.samples) {
+            0 => Ok(by_rust(&for_rust(self.nine), y, cb, cr)),
+            number => Err(number),
+        }
+    }
+}
+
 impl Case for Coloured {
     fn compare(&self) -> Result<u8, Difference> {
         let conversion = for_desk(self.nine);
         let [y, cb, cr] = self.samples;
-        let wanted = match judge::to_rgb(conversion, self.samples) {
-            0 => Ok(by_rust(&for_rust(self.nine), y, cb, cr)),
-            number => Err(number),
-        };
         three_places(
             |red, green, blue| desk::to_rgb(conversion, y, cb, cr, red, green, blue),
-            wanted,
+            self.wanted(),
         )
     }
 
@@ -350,4 +357,42 @@ pub fn run(random: &mut Random) -> Result<Tally, Failure> {
         least,
         every_end().chain(every_number_alone()).chain(others),
     )
+}
+
+/// What the Rust makes for a matrix, a depth and a range. Not adjusted, since a
+/// hue goes through a sine, which another library may round otherwise.
+pub(super) fn plain_by_rust(random: &mut Random) -> Nine {
+    let matrix = *random.pick(&[Matrix::Bt709, Matrix::Bt2020]);
+    let depth = random.between(8, 16) as u8;
+    nine_of(colour::Conversion::new(matrix, depth, random.one_in(2)))
+}
+
+/// Answers, without an end: one in four of each number alone at or past an end
+/// of its range, the others of the Rust's own conversions and of random ones.
+pub(crate) fn answers(mut random: Random) -> impl Iterator<Item = Answer> {
+    let alone: Vec<Coloured> = every_number_alone().collect();
+    let ends: Vec<Coloured> = every_end().step_by(37).collect();
+    std::iter::repeat_with(move || {
+        let case = match random.below(4) {
+            0 => random.pick(&alone).clone(),
+            1 => random.pick(&ends).clone(),
+            2 => Coloured {
+                nine: plain_by_rust(&mut random),
+                samples: [0; 3].map(|_| sample(&mut random)),
+            },
+            _ => Coloured {
+                nine: random_nine(&mut random),
+                samples: [0; 3].map(|_| between(&mut random, SAMPLES)),
+            },
+        };
+        let wanted = case.wanted();
+        let value = |at: usize| wanted.ok().map(|rgb| rgb[at]);
+        Answer::of(Call::ToRgb)
+            .floats(case.nine)
+            .floats(case.samples)
+            .gives(wanted.err().unwrap_or(0))
+            .float(value(0))
+            .float(value(1))
+            .float(value(2))
+    })
 }

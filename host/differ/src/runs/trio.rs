@@ -7,6 +7,7 @@ use oracle::video::Deinterlace;
 use oracle::video::filter::Samples;
 
 use super::read;
+use crate::answers::Answer;
 use crate::case::smaller_numbers;
 use crate::given::{Contents, EDGES_OF_HEIGHT, EDGES_OF_WIDTH, Given, edge_of};
 use crate::judge::{self, Lent};
@@ -200,5 +201,17 @@ impl Draft {
             needed.saturating_add_signed(self.more)
         };
         (self.shape, length as usize)
+    }
+}
+
+impl Trio {
+    /// The answer with the numbers and the bytes of the three planes added.
+    pub fn answer(&self, mut answer: Answer) -> Answer {
+        for given in &self.0 {
+            answer = answer
+                .numbers(read::listed(given.shape))
+                .slice(&given.plane().data);
+        }
+        answer
     }
 }

@@ -6,6 +6,7 @@ use oracle::decode::weave;
 use oracle::mediadecoder::video::Frame;
 
 use super::fields::{self, Field, affordable};
+use crate::answers::{Answer, Call};
 use crate::case::{Case, Difference, Failure, Least, Tally, same, smaller_numbers};
 use crate::judge;
 use crate::lent::{Guarded, PATTERNS};
@@ -27,17 +28,25 @@ struct Pair {
     outs: [usize; 3],
 }
 
+impl Pair {
+    /// The number, and what is written.
+    fn wanted(&self) -> (u8, [Vec<u8>; 3]) {
+        let Self { top, bottom, outs } = self;
+        match judge::weaves::weave(top.lent(), bottom.lent(), *outs) {
+            0 => {
+                let woven = by_rust(&top.frame(), &bottom.frame());
+                let woven = woven.expect("the Rust weaves fields that agree");
+                (0, woven.planes.map(|plane| plane.data))
+            }
+            number => (number, Default::default()),
+        }
+    }
+}
+
 impl Case for Pair {
     fn compare(&self) -> Result<u8, Difference> {
         let Self { top, bottom, outs } = self;
-        let number = judge::weaves::weave(top.lent(), bottom.lent(), *outs);
-        let expected = match number {
-            0 => by_rust(&top.frame(), &bottom.frame())
-                .expect("the Rust weaves fields that agree")
-                .planes
-                .map(|plane| plane.data),
-            _ => Default::default(),
-        };
+        let (number, expected) = self.wanted();
         for pattern in PATTERNS {
             let mut lent = outs.map(|length| Guarded::filled(pattern, length));
             let given = desk::weave(
@@ -178,4 +187,23 @@ fn large(random: &mut Random, size: (u32, u32, u32)) -> Pair {
         .each_ref()
         .map(|given| judge::weaves::woven(given.shape) as usize + 3);
     pair
+}
+
+/// Answers of small fields, without an end; one in three has something wrong.
+pub(crate) fn answers(mut random: Random) -> impl Iterator<Item = Answer> {
+    std::iter::repeat_with(move || {
+        let pair = if random.one_in(3) {
+            spoilt(&mut random)
+        } else {
+            let size = fields::size(&mut random, 12, 6);
+            right(&mut random, size)
+        };
+        let (number, written) = pair.wanted();
+        let mut answer = pair.top.answer(Answer::of(Call::Weave));
+        answer = pair.bottom.answer(answer).gives(number);
+        for (written, lent) in written.iter().zip(pair.outs) {
+            answer = answer.output(written, lent);
+        }
+        answer
+    })
 }

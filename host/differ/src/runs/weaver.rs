@@ -17,6 +17,7 @@ use oracle::mediadecoder::es::Format;
 use oracle::mediadecoder::video::{Frame, Plane};
 
 use super::fields::{self, Field};
+use crate::answers::{Answer, Call, FILL, STORE_ROOM};
 use crate::case::{Case, Difference, Failure, Least, Tally, same, smaller_numbers};
 use crate::judge;
 use crate::judge::weaves::{Kept, Room};
@@ -625,4 +626,125 @@ pub fn run(random: &mut Random) -> Result<Tally, Failure> {
         refused: 12_000,
     };
     Tally::of(NAME, least, streams)
+}
+
+// ---- Answers
+
+/// The Rust's weaver alone, and what the program `replay` has to find: its store
+/// goes on from one weaver to the next.
+struct Recorder {
+    rust: Weaver,
+    store: Vec<u8>,
+    kept: Option<Kept>,
+    found: Vec<Answer>,
+}
+
+impl Recorder {
+    /// A call that has nothing but the state.
+    fn of_state(&mut self, call: Call, state: usize, too_short: u8) {
+        let number = if state < WEAVER_BYTES { too_short } else { 0 };
+        if number == 0 {
+            self.rust.clear();
+            self.kept = None;
+        }
+        let answer = Answer::of(call).number(state as u64).gives(number);
+        self.found.push(answer);
+    }
+
+    fn push(&mut self, push: &Push) {
+        let Push {
+            parity,
+            timed,
+            time,
+            ref field,
+            room,
+        } = *push;
+        let lent = field.lent();
+        let number = judge::weaves::push(self.kept, parity, timed, lent, room);
+        let mut woven: [Vec<u8>; 3] = Default::default();
+        let mut picture = None;
+        if number == 0 {
+            let at = (timed == 1).then_some(time);
+            let by_rust = self.rust.push(field.frame(), parity == 0, at);
+            let fits = self.kept.is_some_and(|kept| kept.fits(lent, parity));
+            assert_eq!(
+                fits,
+                by_rust.is_some(),
+                "document 01 pairs as the Rust does"
+            );
+            self.kept = match by_rust {
+                Some((frame, earlier)) => {
+                    woven = frame.planes.map(|plane| plane.data);
+                    picture = Some((1, u8::from(earlier.is_some()), earlier.unwrap_or(0)));
+                    None
+                }
+                None => {
+                    let packed = pack(field);
+                    self.store[..packed.len()].copy_from_slice(&packed);
+                    picture = Some((0, 0, 0));
+                    Some(Kept::of(lent, parity))
+                }
+            };
+        }
+        let front = Answer::of(Call::WeaverPush)
+            .number(room.state as u64)
+            .number(parity)
+            .number(timed)
+            .signed(time);
+        let mut answer = field
+            .answer(front)
+            .gives(number)
+            .byte(picture.map(|(picture, ..)| picture))
+            .byte(picture.map(|(_, timed, _)| timed))
+            .time(picture.map(|(.., time)| time))
+            .slice(&self.store[..room.store]);
+        for (written, lent) in woven.iter().zip(room.outs) {
+            answer = answer.output(written, lent);
+        }
+        self.found.push(answer);
+    }
+}
+
+/// A push of more bytes is left out.
+const MOST_BYTES: usize = 2_000;
+
+/// Streams of small fields that alternate, repeat and change, with and without
+/// times, with clears and refused calls, each from a new weaver.
+pub(crate) fn answers(mut random: Random) -> Vec<Answer> {
+    let mut recorder = Recorder {
+        rust: Weaver::default(),
+        store: vec![FILL; STORE_ROOM],
+        kept: None,
+        found: Vec::new(),
+    };
+    let mut streams = 0;
+    while streams < 28 {
+        let mut maker = Maker::new(Random::new(random.next()));
+        if maker.store > 220 {
+            continue;
+        }
+        streams += 1;
+        if random.one_in(3) {
+            let short = random.below(WEAVER_BYTES as u64) as usize;
+            recorder.of_state(Call::WeaverNew, short, 7);
+        }
+        recorder.of_state(Call::WeaverNew, STATE, 7);
+        for _ in 0..16 {
+            match maker.step() {
+                Step::New(state) => recorder.of_state(Call::WeaverNew, state, 7),
+                Step::Clear(state) => recorder.of_state(Call::WeaverClear, state, 6),
+                Step::Push(push) => {
+                    let planes = push.field.lent().map(|(_, length)| length);
+                    let lent = planes.into_iter().chain(push.room.outs);
+                    if lent.sum::<usize>() <= MOST_BYTES {
+                        recorder.push(&push);
+                    }
+                }
+                // How a state's bytes stand for a weaver is the desk's own affair.
+                Step::State(_) => {}
+            }
+        }
+        recorder.of_state(Call::WeaverClear, STATE, 6);
+    }
+    recorder.found
 }

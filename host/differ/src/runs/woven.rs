@@ -4,6 +4,7 @@ use desk::FormatNumbers;
 use oracle::decode::weave;
 use oracle::mediadecoder::es::Format;
 
+use crate::answers::{Answer, Call};
 use crate::case::{Case, Difference, Failure, Least, Tally, same, smaller_numbers};
 use crate::random::Random;
 
@@ -38,8 +39,8 @@ fn by_rust(field: FormatNumbers) -> FormatNumbers {
 #[derive(Debug, Clone, Copy)]
 struct Numbers([u32; 8]);
 
-impl Case for Numbers {
-    fn compare(&self) -> Result<u8, Difference> {
+impl Numbers {
+    fn field(self) -> FormatNumbers {
         let [
             width,
             height,
@@ -50,7 +51,7 @@ impl Case for Numbers {
             progressive,
             woven,
         ] = self.0;
-        let field = FormatNumbers {
+        FormatNumbers {
             width,
             height,
             depth,
@@ -59,7 +60,36 @@ impl Case for Numbers {
             field_pictures,
             progressive,
             woven,
-        };
+        }
+    }
+
+    fn of(format: FormatNumbers) -> Self {
+        let FormatNumbers {
+            width,
+            height,
+            depth,
+            rate_numerator,
+            rate_denominator,
+            field_pictures,
+            progressive,
+            woven,
+        } = format;
+        Self([
+            width,
+            height,
+            depth,
+            rate_numerator,
+            rate_denominator,
+            field_pictures,
+            progressive,
+            woven,
+        ])
+    }
+}
+
+impl Case for Numbers {
+    fn compare(&self) -> Result<u8, Difference> {
+        let field = self.field();
         same("the format", desk::woven(field), by_rust(field))?;
         Ok(0)
     }
@@ -88,6 +118,18 @@ fn number(random: &mut Random) -> u32 {
     }
 }
 
+fn numbers(random: &mut Random) -> Numbers {
+    let mut numbers = [0; 8].map(|_| number(random));
+    // A depth or a flag that counts as another, in one of four.
+    if !random.one_in(4) {
+        numbers[2] = random.between(0, 255) as u32;
+        for flag in &mut numbers[5..] {
+            *flag = random.below(2) as u32;
+        }
+    }
+    Numbers(numbers)
+}
+
 pub fn run(random: &mut Random) -> Result<Tally, Failure> {
     let mut edges = Vec::new();
     let around = |edge: u32| (edge - 2)..=(edge + 2);
@@ -109,20 +151,19 @@ pub fn run(random: &mut Random) -> Result<Tally, Failure> {
             }
         }
     }
-    let others = (0..50_000).map(|_| {
-        let mut numbers = [0; 8].map(|_| number(random));
-        // A depth or a flag that counts as another, in one of four.
-        if !random.one_in(4) {
-            numbers[2] = random.between(0, 255) as u32;
-            for flag in &mut numbers[5..] {
-                *flag = random.below(2) as u32;
-            }
-        }
-        Numbers(numbers)
-    });
+    let others = (0..50_000).map(|_| numbers(random));
     let least = Least {
         accepted: 50_000,
         refused: 0,
     };
     Tally::of(NAME, least, edges.into_iter().chain(others))
+}
+
+/// Answers, without an end.
+pub(crate) fn answers(mut random: Random) -> impl Iterator<Item = Answer> {
+    std::iter::repeat_with(move || {
+        let numbers = numbers(&mut random);
+        let woven = Numbers::of(by_rust(numbers.field()));
+        Answer::of(Call::Woven).numbers(numbers.0).numbers(woven.0)
+    })
 }

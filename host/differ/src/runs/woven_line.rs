@@ -11,6 +11,7 @@ use oracle::mediadecoder::video::{Frame, Plane};
 
 use super::fields::{self, lines};
 use super::weave;
+use crate::answers::{Answer, Call};
 use crate::case::{Case, Difference, Failure, Least, Tally, same, smaller_numbers};
 use crate::given::Given;
 use crate::judge;
@@ -239,4 +240,54 @@ pub fn run(random: &mut Random) -> Result<Tally, Failure> {
         refused: 40_000,
     };
     Tally::of(NAME, least, large.chain(others))
+}
+
+/// Lines of small planes, without an end.
+fn small(mut random: Random) -> impl Iterator<Item = Line> {
+    std::iter::repeat_with(move || {
+        let planes = random_planes(&mut random);
+        let mut lines = asked_of(&mut random, planes);
+        let at = random.below(lines.len().max(1) as u64) as usize;
+        (at < lines.len()).then(|| lines.swap_remove(at))
+    })
+    .flatten()
+}
+
+/// Answers, without an end.
+pub(crate) fn answers(random: Random) -> impl Iterator<Item = Answer> {
+    small(random).map(|line| {
+        let Planes { top, bottom, .. } = &*line.planes;
+        let lent = [top, bottom].map(|given| (given.shape, given.length));
+        let number = judge::weaves::woven_line(lent[0], lent[1], line.y, line.out);
+        let written = if number == 0 {
+            line.planes.line(line.y)
+        } else {
+            &[]
+        };
+        Answer::of(Call::WovenLine)
+            .numbers(fields::listed(top.shape))
+            .numbers(fields::listed(bottom.shape))
+            .number(line.y)
+            .gives(number)
+            .slice(&top.plane().data)
+            .slice(&bottom.plane().data)
+            .output(written, line.out)
+    })
+}
+
+/// Answers of the twin, without an end. The original has no such call: where it
+/// gives 0, the original weaves the line.
+pub(crate) fn numbers(random: Random) -> impl Iterator<Item = Answer> {
+    small(random).map(|line| {
+        let Planes { top, bottom, .. } = &*line.planes;
+        let [top_bytes, bottom_bytes] = line.said;
+        let number = judge::weaves::line(top.shape, bottom.shape, line.said, line.y);
+        Answer::of(Call::LineNumber)
+            .numbers(fields::listed(top.shape))
+            .number(top_bytes)
+            .numbers(fields::listed(bottom.shape))
+            .number(bottom_bytes)
+            .number(line.y)
+            .gives(number)
+    })
 }

@@ -1,14 +1,13 @@
--- `weaver::copy_row` meets its contract. The loop keeps `Filled` of the bytes passed. Assumes nothing.
+-- `copy::copy_each` meets its contract. The loop keeps `Filled` of the bytes passed. Assumes nothing.
 use Prim.Native.Nat.{_-_}
 use mathlib.Core.Path.{refl, _∙_}
 use native.Mathlib.Omega.{arith}
 use lib.ListN.{length, getD}
 use denote.Ref.{now}
 use borrow.Author.Needs.{needs}
-use Rattle.laws.proofs.Lists.{Filled, fill-starts, fills, fill-ends}
-use Rattle.weave.proofs.General.{listed-again}
-use Rattle.weaver.proofs.copy_row.Statement.{statement}
-use Rattle.weaver.proofs.copy_row.Tie as tie
+use Rattle.laws.proofs.Lists.{Filled, fill-starts, fills, fill-ends, listed-again}
+use Rattle.copy.proofs.copy_each.Statement.{statement}
+use Rattle.copy.proofs.copy_each.Tie as tie
 
 abbrev Inv-loop : tie.InvT-loop
 Inv-loop dst₀ src i₀ dst i = Filled (λ x. getD src x 0) dst₀ dst i
@@ -42,8 +41,8 @@ returns c =
     let start = c .before .before in
     fill-ends (c .before .loop .inv) (omega arith) ∙ listed-again (now (start .args .src)) (length (now (start .args .dst))) 0 (start .pre)
 
-pub copy-row-spec : {M : Type 1} → statement M
-copy-row-spec =
+pub copy-each-spec : {M : Type 1} → statement M
+copy-each-spec =
     tie.close
     (tie.spec
     Inv-loop

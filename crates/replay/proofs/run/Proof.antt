@@ -1,0 +1,91 @@
+-- `replay::run` meets its contract. Assumes nothing.
+use Prim.Native.Nat.{_-_}
+use mathlib.Core.Path.{_≡_}
+use native.Mathlib.Omega.{arith}
+use lib.ListN.{length}
+use borrow.Author.Needs.{needs}
+use Rattle.replay.proofs.run.Statement.{statement}
+use Rattle.replay.proofs.run.Tie as tie
+
+abbrev Inv-loop : tie.InvT-loop
+Inv-loop buffer₀ detector₀ frame₀ weaver₀ field₀ compared₀ differ₀ nth₀ buffer detector frame weaver field compared differ nth =
+    (65536 ≡ length buffer) × (213 ≡ length detector) × (8192 ≡ length frame) × (64 ≡ length weaver) × (8192 ≡ length field) × (28 ≡ length compared) × (28 ≡ length differ)
+
+abbrev μ-loop : tie.MeasureT-loop
+μ-loop buffer₀ detector₀ frame₀ weaver₀ field₀ compared₀ differ₀ nth₀ buffer detector frame weaver field compared differ nth =
+    18446744073709551615 - nth
+
+loop-holds : tie.Need-loop-holds Inv-loop μ-loop
+loop-holds c = search needs
+
+slice-aggregate-once : tie.Need-slice-aggregate-once Inv-loop μ-loop
+slice-aggregate-once c = search needs
+
+slice-aggregate-once-2 : tie.Need-slice-aggregate-once-2 Inv-loop μ-loop
+slice-aggregate-once-2 c = search needs
+
+slice-aggregate-once-3 : tie.Need-slice-aggregate-once-3 Inv-loop μ-loop
+slice-aggregate-once-3 c = search needs
+
+slice-aggregate-once-4 : tie.Need-slice-aggregate-once-4 Inv-loop μ-loop
+slice-aggregate-once-4 c = search needs
+
+slice-aggregate-once-5 : tie.Need-slice-aggregate-once-5 Inv-loop μ-loop
+slice-aggregate-once-5 c = search needs
+
+slice-aggregate-once-6 : tie.Need-slice-aggregate-once-6 Inv-loop μ-loop
+slice-aggregate-once-6 c = search needs
+
+slice-aggregate-once-7 : tie.Need-slice-aggregate-once-7 Inv-loop μ-loop
+slice-aggregate-once-7 c = search needs
+
+once-requires : tie.Need-once-requires Inv-loop μ-loop
+once-requires c κs = search needs
+
+slice-aggregate-tell-all : tie.Need-slice-aggregate-tell-all Inv-loop μ-loop
+slice-aggregate-tell-all c = search needs
+
+slice-aggregate-tell-all-2 : tie.Need-slice-aggregate-tell-all-2 Inv-loop μ-loop
+slice-aggregate-tell-all-2 c = search needs
+
+tell-all-requires : tie.Need-tell-all-requires Inv-loop μ-loop
+tell-all-requires c κs = search needs
+
+returns : tie.Need-returns Inv-loop μ-loop
+returns c = search needs
+
+add-nth : tie.Need-add-nth Inv-loop μ-loop
+add-nth c = search needs
+
+loop-less : tie.Need-loop-less Inv-loop μ-loop
+loop-less c = omega arith
+
+loop-again : tie.Need-loop-again Inv-loop μ-loop
+loop-again c = search needs
+
+returns-2 : tie.Need-returns-2 Inv-loop μ-loop
+returns-2 c = search needs
+
+pub run-spec : {M : Type 1} → statement M
+run-spec =
+    tie.close
+    (tie.spec
+    Inv-loop
+    μ-loop
+    loop-holds
+    slice-aggregate-once
+    slice-aggregate-once-2
+    slice-aggregate-once-3
+    slice-aggregate-once-4
+    slice-aggregate-once-5
+    slice-aggregate-once-6
+    slice-aggregate-once-7
+    once-requires
+    slice-aggregate-tell-all
+    slice-aggregate-tell-all-2
+    tell-all-requires
+    returns
+    add-nth
+    loop-less
+    loop-again
+    returns-2)
