@@ -1,20 +1,23 @@
 -- Laws of a detector in the state's bytes. Assumes nothing.
-use Prim.Native.Nat.{ℕ, _*_, _≤_}
+use Prim.Native.Nat.{ℕ, _+_, _*_, _%_, _≤_, _<_, _^_}
 use mathlib.Core.Path.{_≡_, ap, _∙_}
-use mathlib.Core.Bool.{Bool, true, false, cond}
+use mathlib.Core.Bool.{Bool, true, false, cond, not}
 use mathlib.Core.List.{List, _++_}
 use native.Mathlib.Nat.{le-antisymm}
 use native.Mathlib.Omega.{arith}
 use borrow.Author.Tests.{le-leb}
-use lib.Dec.{eqb}
-use lib.ListN.{length, getD, drop, replicate, length-append, length-set}
+use lib.Dec.{eqb, lit<}
+use lib.ListN.{length, getD, take, drop, replicate, length-append, length-set}
+use lib.Seq.{getD-take}
 use Rattle.laws.specs.Refusal.{lowest, written}
 use Rattle.laws.specs.Rows.{listed, over}
-use Rattle.laws.proofs.Lists.{Filled, length-listed}
+use Rattle.laws.proofs.Lists.{Filled, length-listed, same-listed}
+use Rattle.laws.proofs.Sums.{same-terms}
 use Rattle.field.specs.declared.Chosen.the-variants as chosen
 use Rattle.field.specs.declared.Parity.{Parity}
+use Rattle.field.specs.Field.{parityNamed}
 use Rattle.plane.specs.declared.Shape.{Shape}
-use Rattle.packed.specs.Packed.{packedOf, packNo}
+use Rattle.packed.specs.Packed.{packedOf, numberAt, packNo}
 use Rattle.pulldown.specs.declared.Lock.{Lock}
 use Rattle.pulldown.specs.declared.Seen.{Seen}
 use Rattle.pulldown.specs.declared.Seen.the-variants as seen
@@ -22,7 +25,7 @@ use Rattle.pulldown.specs.Lock.{advanceOf}
 use Rattle.telecine.specs.declared.Detector.{Detector}
 use Rattle.telecine.specs.declared.Measured.{Measured}
 use Rattle.telecine.specs.Detector.{seenMeasured, measuredNo, measuredDetector, seenPicture, keptAs, pushNo, pushDetector}
-use Rattle.filmdesk.specs.Kept.{detectorIn, detectorNumbers, keeping}
+use Rattle.filmdesk.specs.Kept.{detectorIn, detectorNumbers, keeping, chosenNamed}
 use Rattle.filmdesk.proofs.General.{listed-whole}
 
 -- ---- the numbers
@@ -50,6 +53,32 @@ numbers-kept d numbers state new answer e room same number new-is =
     new-is
     ∙ ap (λ (n : ℕ). written n (over (packedOf numbers) state) state) (number ∙ none)
     ∙ ap (λ (list : List ℕ). over (packedOf list) state) same
+
+-- ---- the first 208 bytes hold all of a detector
+front-number : (bytes : List ℕ) (k : ℕ) → k < 26 → numberAt (take 208 bytes) k ≡ numberAt bytes k
+unfolding numberAt
+front-number bytes k h = same-terms 8 _ _ (λ i l. ap (λ (b : ℕ). b * 256 ^ i) (getD-take 208 bytes (8 * k + i) 0 (omega arith)))
+
+pub front-detector : (bytes : List ℕ) → detectorIn (take 208 bytes) ≡ detectorIn bytes
+unfolding detectorIn
+front-detector bytes = λ j. record {
+  lock = record {
+    ring = same-listed 15 _ _ (λ i l. ap (λ (n : ℕ). n % 256) (front-number bytes i (omega arith))) j;
+    next = front-number bytes 15 (lit< tt) j;
+    held = front-number bytes 16 (lit< tt) j;
+    taken = front-number bytes 17 (lit< tt) j;
+    phase = front-number bytes 18 (lit< tt) j % 256;
+    since = front-number bytes 19 (lit< tt) j;
+    stills = front-number bytes 20 (lit< tt) j;
+  };
+  kept = record {
+    held = not (eqb (front-number bytes 21 (lit< tt) j) 0);
+    width = front-number bytes 22 (lit< tt) j % 65536;
+    height = front-number bytes 23 (lit< tt) j % 65536;
+    first = parityNamed (front-number bytes 24 (lit< tt) j);
+  };
+  last = chosenNamed (front-number bytes 25 (lit< tt) j);
+}
 
 -- ---- the ring of every detector that a call hands back has 15 places
 pub found-ring : (bytes : List ℕ) → length (detectorIn bytes .lock .ring) ≡ 15

@@ -114,12 +114,15 @@ fn kept_in(state: &[u8]) -> Kept
     }
 }
 
+// Of a part whose length is known, no number has to be tested for where the bytes end.
 fn detector_in(state: &[u8]) -> Detector
+    requires { ⌜ 208 ≤ length (now state) ⌝ }
     ensures { λ r. ⌜ r ≡ detectorIn (now (state .entry)) ⌝ }
 {
-    let lock = lock_in(state);
-    let kept = kept_in(state);
-    let last = chosen_in(packed::number_at(state, 25));
+    let bytes = &state[0..STATE_BYTES];
+    let lock = lock_in(bytes);
+    let kept = kept_in(bytes);
+    let last = chosen_in(packed::number_at(bytes, 25));
     Detector {
         lock: lock,
         kept: kept,
@@ -127,11 +130,42 @@ fn detector_in(state: &[u8]) -> Detector
     }
 }
 
-// The same after a reset.
+// As much of it as `locked`, `predict` and `reset` look at. The rest is not read, and made up.
+fn outline_in(state: &[u8]) -> Detector
+    requires { ⌜ 208 ≤ length (now state) ⌝ }
+    ensures { λ r. ⌜ (r .lock .taken ≡ detectorIn (now (state .entry)) .lock .taken) × (r .lock .phase ≡ detectorIn (now (state .entry)) .lock .phase) × (r .lock .since ≡ detectorIn (now (state .entry)) .lock .since) × (r .last ≡ detectorIn (now (state .entry)) .last) ⌝ }
+{
+    let bytes = &state[0..STATE_BYTES];
+    let taken = packed::number_at(bytes, 17);
+    let phase = byte_in(packed::number_at(bytes, 18));
+    let since = packed::number_at(bytes, 19);
+    let last = chosen_in(packed::number_at(bytes, 25));
+    Detector {
+        lock: Lock {
+            ring: [0u8; 15],
+            next: 0,
+            held: 0,
+            taken: taken,
+            phase: phase,
+            since: since,
+            stills: 0,
+        },
+        kept: Kept {
+            held: false,
+            width: 0,
+            height: 0,
+            first: Parity::Top,
+        },
+        last: last,
+    }
+}
+
+// The detector after a reset.
 fn reset_in(state: &[u8]) -> Detector
+    requires { ⌜ 208 ≤ length (now state) ⌝ }
     ensures { λ r. ⌜ r ≡ resetOf (detectorIn (now (state .entry))) ⌝ }
 {
-    let detector = detector_in(state);
+    let detector = outline_in(state);
     detector.reset()
 }
 
@@ -238,8 +272,8 @@ pub extern "C" fn desk_busy(
     ensures { λ r. ⌜ now (busy .exit) ≡ written r (countsOf (now (plane .entry)) (shapeNamed shape) (now (store .entry)) (firstRowOf (parityNamed parity)) .busy) (now (busy .entry)) ⌝ }
     ensures { λ r. ⌜ now (total .exit) ≡ written r (countsOf (now (plane .entry)) (shapeNamed shape) (now (store .entry)) (firstRowOf (parityNamed parity)) .total) (now (total .entry)) ⌝ }
 {
-    let named = (shape.layout <= 3) & (parity <= 1);
-    if !named {
+    let known = (shape.layout <= 3) & (parity <= 1);
+    if !known {
         return refusal::OUTSIDE;
     }
     match block::count(
@@ -302,7 +336,7 @@ pub extern "C" fn desk_detector_locked(state: &[u8], locked: &mut u8) -> u8
     if state.len() < STATE_BYTES {
         return refusal::SHORT_INPUT;
     }
-    let detector = detector_in(state);
+    let detector = outline_in(state);
     *locked = one_if(detector.locked());
     0
 }
@@ -316,7 +350,7 @@ pub extern "C" fn desk_detector_predict(state: &[u8], ahead: u64, cadence: &mut 
     if state.len() < STATE_BYTES {
         return refusal::SHORT_INPUT;
     }
-    let detector = detector_in(state);
+    let detector = outline_in(state);
     match detector.predict(ahead) {
         Answer::Gave(foretold) => {
             *cadence = foretold.number();

@@ -1,4 +1,5 @@
 -- `filmdesk::desk_detector_predict` meets its contract. Assumes nothing.
+use Prim.Native.Nat.{_+_, min}
 use mathlib.Core.Path.{refl, ap, _∙_}
 use lib.ListN.{length}
 use denote.Ref.{now}
@@ -7,6 +8,7 @@ use borrow.Author.Tests.{le-leb, lt-leb}
 use Rattle.laws.specs.Refusal.{lowest, whenDone}
 use Rattle.laws.proofs.Refusal.{number-behind}
 use Rattle.field.specs.Field.{cadenceNumber}
+use Rattle.pulldown.specs.Runs.{foretold}
 use Rattle.pulldown.specs.Lock.{answerNo, answerValues, predictCadence}
 use Rattle.filmdesk.specs.Kept.{detectorIn}
 use Rattle.filmdesk.specs.Film.{predictStateNo}
@@ -18,8 +20,8 @@ returns : tie.Need-returns
 unfolding lowest
 returns c = simp (lt-leb _ _ (c .if1 .taken)) (refl, refl)
 
-detector-in-requires : tie.Need-detector-in-requires
-detector-in-requires c κs = search needs
+outline-in-requires : tie.Need-outline-in-requires
+outline-in-requires c κs = search needs
 
 predict-requires : tie.Need-predict-requires
 predict-requires c κs = search needs
@@ -41,9 +43,10 @@ answered k =
     let found = k .before in
     let a = k .before .before .before .before .args in
     let number = number-behind 6 (le-leb _ _ (found .before .if1 .left)) refl in
+    let same = found .outline-in .ensures in
     record {
       number-is = k .predict .ensures .0 ∙ number;
-      values-are = k .predict .ensures .1 ∙ (λ i. whenDone (number i) (predictCadence (found .detector-in .ensures i .lock) (a .ahead)));
+      values-are = k .predict .ensures .1 ∙ (λ i. whenDone (number i) (foretold (same .1 i) (same .2 i) (min (same .0 i) 4000000000 + a .ahead)));
     }
 
 returns-2 : tie.Need-returns-2
@@ -63,7 +66,7 @@ desk-detector-predict-spec =
     tie.close
     (tie.spec
     returns
-    detector-in-requires
+    outline-in-requires
     predict-requires
     enum-known-foretold
     number-requires

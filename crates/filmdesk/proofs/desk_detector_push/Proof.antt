@@ -58,7 +58,11 @@ returns c =
     )
 
 detector-in-requires : tie.Need-detector-in-requires
-detector-in-requires c κs = search needs
+detector-in-requires c κs =
+    let passed = c .before in
+    let judged = passed .before in
+    let a = judged .before .before .before .before .before .before .before .args in
+    state-room (leb (a .shape .layout) 3 && leb (a .parity) 1) (judged .before .good-shape .result) (length (now (a .state))) (sym (judged .lowest-of .ensures) ∙ passed .if1 .left)
 
 named-requires : tie.Need-named-requires
 named-requires c κs = search needs

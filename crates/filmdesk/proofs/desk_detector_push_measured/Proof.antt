@@ -32,7 +32,7 @@ returns-2 c =
     simp (not-false (leb (a .parity) 1 && leb (a .present) 1) (c .before .if1 .left), lt-leb _ _ (c .if2 .taken)) (refl, (refl, refl))
 
 detector-in-requires : tie.Need-detector-in-requires
-detector-in-requires c κs = search needs
+detector-in-requires c κs = c .before .if2 .left
 
 measured-named-requires : tie.Need-measured-named-requires
 measured-named-requires c κs = search needs

@@ -2,7 +2,7 @@
 // from record to record in the program's own arrays. How the state's bytes stand for a detector is the
 // desk's own affair, so they are not compared; the kept frame is. A record has in front how many bytes of
 // the state are lent. Assumes nothing.
-use crate::planes;
+use crate::deskcalls::planes;
 use answers::lent;
 
 fn busy(answer: &[u8]) -> bool {

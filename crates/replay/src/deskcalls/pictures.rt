@@ -1,7 +1,7 @@
 // The call that makes a picture. Its record has the numbers in their order and the number expected back;
 // its slices are the planes in their order, and the picture. Assumes nothing.
-use crate::planes;
-use crate::samples;
+use crate::deskcalls::planes;
+use crate::deskcalls::samples;
 use answers::lent;
 use picturedesk::FrameNumbers;
 use picturedesk::OutputNumbers;

@@ -1,7 +1,7 @@
 // The calls on the rows a field lacks and on colour. A record's numbers are in the order of planes.rt;
 // its slices are the planes before, now and after, and then the floats of a whole plane, each by its bits
 // as a number. Assumes nothing.
-use crate::planes;
+use crate::deskcalls::planes;
 use answers::lent;
 
 // The nine numbers of a conversion from number k on.
