@@ -50,9 +50,9 @@ pub fn copy_front(dst: &mut [u8], src: &[u8])
 {
     let n = smaller(dst.len(), src.len());
     let mut at = 0;
-    while at < n {
-        let end = at + smaller(n - at, BLOCK);
-        copy_block(&mut dst[at..end], &src[at..end]);
-        at = end;
+    while BLOCK < n - at {
+        copy_block(&mut dst[at..at + BLOCK], &src[at..at + BLOCK]);
+        at += BLOCK;
     }
+    copy_block(&mut dst[at..n], &src[at..n]);
 }
