@@ -1,6 +1,6 @@
 // The calls of crate `weavedesk` made again, in the manner of `deskcalls`. A weaver's state and the field
-// it keeps live from record to record, as a detector's do there. A record's slices are the planes in their order, what the store holds
-// afterwards, and the outputs. Assumes nothing.
+// it keeps live from record to record, as a detector's do there. A record's slices are the planes in
+// their order, what the store holds afterwards, and the outputs. Assumes nothing.
 use answers::lent;
 use weavedesk::FieldNumbers;
 use weavedesk::FormatNumbers;
