@@ -116,9 +116,10 @@ pub fn to_rgb(c: Conversion, y: f32, cb: f32, cr: f32) -> Coloured
     }
 }
 
-// A half is added so that the cut rounds to the nearest byte.
+// A half is added so that the cut rounds to the nearest byte. The cut stops at 0 and at 255 by itself,
+// so the original's clamp before it would change nothing.
 pub fn quantise(value: f32) -> u8
     ensures { λ r. ⌜ r ≡ quantiseOf value ⌝ }
 {
-    float::to_u8(float::clamp(value * 255.0 + 0.5, 0.0, 255.0))
+    float::to_u8(value * 255.0 + 0.5)
 }

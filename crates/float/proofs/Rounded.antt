@@ -99,8 +99,8 @@ power (negsuc b) l h = (l - suc b, one-mul (2 ^ l) ∙ ap (λ (x : ℕ). 2 ^ x) 
     enough : suc b ≤ l
     enough = lt-of-not-le (λ (g : l ≤ b). not-le-of-lt (pow-lt (omega arith)) h)
 
--- what `fits` says of a value other than zero
-held : (f : Format) (s : Bool) (m : ℕ) (e : ℤ) → T (fits f (fin s (suc m) e)) → (suc m < 2 ^ prec f) × (down e ≤ 2 ^ low f) × (suc m * up e < 2 ^ suc (emax f) * down e)
+-- What `fits` says of a value other than zero.
+pub held : (f : Format) (s : Bool) (m : ℕ) (e : ℤ) → T (fits f (fin s (suc m) e)) → (suc m < 2 ^ prec f) × (down e ≤ 2 ^ low f) × (suc m * up e < 2 ^ suc (emax f) * down e)
 unfolding fits
 held f s m e t =
     let a : Bool = eqb (suc m % 2) 1 in

@@ -1,6 +1,7 @@
 -- Bounds on floats, in terms of whole numbers. `up e` and `down e` are 2 ^ e as a fraction, so the size of `fin s m e` is m * up e / down e.
 -- Assumes nothing.
 use Prim.Native.Nat.{ℕ, _*_, _^_, _≤_}
+use mathlib.Core.Bool.{true, false}
 use lib.Dec.{T}
 use lib.Ieee.{Float, nan, inf, fin, up, down, le}
 use Rattle.float.specs.Float.{zeroF, oneF}
@@ -23,6 +24,16 @@ pub record Small (k : ℕ) (x : Float) : Type 0 where
 
 pub record Away (k : ℕ) (x : Float) : Type 0 where
   pub bound : AtLeast k x
+
+-- x is finite, has no minus sign, and is at most 255
+abbrev pub UpToByte : Float → Type 0
+UpToByte nan = ⊥
+UpToByte (inf s) = ⊥
+UpToByte (fin true m e) = ⊥
+UpToByte (fin false m e) = m * up e ≤ 255 * down e
+
+pub record InByte (x : Float) : Type 0 where
+  pub bound : UpToByte x
 
 -- 0 ≤ x, so no NaN
 pub record NotNegative (x : Float) : Type 0 where

@@ -2,8 +2,10 @@
 // byte. Each is equal to its definition in specs/Float.antt at every float. The laws by which later
 // crates know that a value is finite and how large it is stand in proofs/. Assumes nothing.
 ghost use mathlib.Core.Path.{_≡_};
-ghost use lib.Ieee.{toUnsigned};
+ghost use lib.IntN.{pos};
+ghost use lib.Ieee.{binary32, ofInt, toUnsigned};
 ghost use Rattle.float.specs.Float.{absOf, minOf, maxOf, clampOf};
+ghost use Rattle.float.specs.Bounds.{InByte};
 
 // Written as a difference, which rounds nothing here, because it makes -0.0 into 0.0 without a second test.
 pub fn abs(x: f32) -> f32
@@ -33,17 +35,27 @@ pub fn clamp(x: f32, low: f32, high: f32) -> f32
     if high < x { high } else { x }
 }
 
-// `as u8`: toward zero, the nearer end where x is out of range, 0 for a NaN.
+// Brought to 0 or to 255 where it is outside, and to 0 where it is a NaN.
+fn held_in_byte(x: f32) -> f32
+    ensures { λ r. ⌜ InByte r × (toUnsigned 8 r ≡ toUnsigned 8 x) ⌝ }
+{
+    let above = if 0.0 < x { x } else { 0.0 };
+    if above < 255.0 { above } else { 255.0 }
+}
+
+// From 2^23 on floats are whole numbers, so the sum is one of the two around `held`, moved up by 2^23.
+fn whole_of(held: f32) -> f32
+    requires { ⌜ InByte held ⌝ }
+    ensures { λ r. ⌜ r ≡ ofInt binary32 (pos (toUnsigned 8 held)) ⌝ }
+{
+    let near = (held + 8388608.0) - 8388608.0;
+    if held < near { near - 1.0 } else { near }
+}
+
+// Rust's `as u8`: toward zero, the nearer end where x is out of range, 0 for a NaN. The cast here takes
+// whole numbers in range alone, and is one instruction. What comes before it compiles without branches.
 pub fn to_u8(x: f32) -> u8
     ensures { λ r. ⌜ r ≡ toUnsigned 8 x ⌝ }
 {
-    if x > -1.0 {
-        if x < 256.0 {
-            std::num::truncating_f32_to_u64(x) as u8
-        } else {
-            255
-        }
-    } else {
-        0
-    }
+    whole_of(held_in_byte(x)) as u8
 }

@@ -1,18 +1,17 @@
--- `colour::quantise` meets its contract. Assumes nothing.
-use Rattle.colour.specs.Colour.{quantiseOf}
+-- `colour::quantise` meets its contract: the cut of a byte needs no clamp before it. Assumes nothing.
+use mathlib.Core.Path.{sym, _∙_}
 use borrow.Author.Needs.{needs}
+use Rattle.float.proofs.Byte.{cut-of-clamp}
+use Rattle.colour.specs.Colour.{quantiseOf}
 use Rattle.colour.proofs.quantise.Statement.{statement}
 use Rattle.colour.proofs.quantise.Tie as tie
-
-clamp-requires : tie.Need-clamp-requires
-clamp-requires c κs = search needs
 
 to-u8-requires : tie.Need-to-u8-requires
 to-u8-requires c κs = search needs
 
 returns : tie.Need-returns
 unfolding quantiseOf
-returns c = cc
+returns c = c .to-u8 .ensures ∙ sym (cut-of-clamp _)
 
 pub quantise-spec : {M : Type 1} → statement M
-quantise-spec = tie.close (tie.spec clamp-requires to-u8-requires returns)
+quantise-spec = tie.close (tie.spec to-u8-requires returns)
