@@ -62,7 +62,7 @@ pub fn same(answer: &[u8], k: u8, came: u64) -> bool
 pub fn same_byte(answer: &[u8], k: u8, came: u8) -> bool
     ensures { λ r. ⌜ r ≡ eqb came (numberOf (now (answer .entry)) k) ⌝ }
 {
-    same(answer, k, came as u64)
+    same_word(answer, k, came as u32)
 }
 
 pub fn same_word(answer: &[u8], k: u8, came: u32) -> bool

@@ -41,8 +41,8 @@ pub extern "C" fn desk_comb_rgba(rgba: &[u8], width: u32, height: u32, total: &m
     let columns = planes::at_most_65535(width);
     let rows = planes::at_most_65535(height);
     match comb::comb_rgba(rgba, columns, rows) {
-        comb::Combed::Value(found) => {
-            *total = found;
+        comb::Combed::Value(green) => {
+            *total = green;
             0
         }
         comb::Combed::Refused(no) => no,

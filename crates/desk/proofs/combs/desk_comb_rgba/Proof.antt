@@ -18,8 +18,8 @@ at-most-65535-requires-2 c κs = search needs
 comb-rgba-requires : tie.Need-comb-rgba-requires
 comb-rgba-requires c κs = search needs
 
-enum-known-found : tie.Need-enum-known-found
-enum-known-found c = search needs
+enum-known-green : tie.Need-enum-known-green
+enum-known-green c = search needs
 
 enum-known-no : tie.Need-enum-known-no
 enum-known-no c = search needs
@@ -30,7 +30,7 @@ returns c =
     let a = k .before .before .before .before .args in
     let columns = k .before .before .at-most-65535 .ensures in
     let rows = k .before .at-most-655352 .ensures in
-    handed-value combedNo combedValues (c .before .found .given .1)
+    handed-value combedNo combedValues (c .before .green .given .1)
     (λ i. rgbaNo (columns i) (rows i) (length (now (a .rgba))))
     (λ i. rgbaComb (now (a .rgba)) (columns i) (rows i))
     _ refl refl (k .comb-rgba .ensures .0) (k .comb-rgba .ensures .1)
@@ -53,7 +53,7 @@ desk-comb-rgba-spec =
     at-most-65535-requires
     at-most-65535-requires-2
     comb-rgba-requires
-    enum-known-found
+    enum-known-green
     enum-known-no
     returns
     returns-2)
