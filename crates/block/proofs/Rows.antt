@@ -15,10 +15,11 @@ use Rattle.laws.proofs.Lists.{length-listed, same-listed, listed-at}
 use Rattle.plane.specs.declared.Shape.{Shape}
 use Rattle.plane.specs.declared.Layout.{Layout}
 use Rattle.plane.specs.declared.Layout.the-variants.{Planar, Luma, First, Second}
-use Rattle.plane.specs.Plane.{components, component, rowBytes, planeBytes, biplanar, shift, codeOf}
+use Rattle.plane.specs.Plane.{alone, components, component, rowBytes, planeBytes, biplanar, shift, codeOf}
+use Rattle.plane.proofs.Places.{no-shift}
 use Rattle.plane.specs.Claims.{AllBytes}
 use Rattle.block.specs.Block.{keptOf}
-use Rattle.block.specs.Rows.{KeptRow, alone, byteRows, down, pairKept}
+use Rattle.block.specs.Rows.{KeptRow, byteRows, down, pairKept}
 
 -- ---- where rows stand
 -- a row of a plane that has the bytes it needs ends within it
@@ -58,12 +59,6 @@ first-component First h = absurd (true≢false (sym h))
 first-component Second h = absurd (true≢false (sym h))
 
 -- ---- how far codes go right
-no-shift : (layout : Layout) (depth : ℕ) → leb 9 depth ≡ false → shift layout depth ≡ 0
-no-shift Planar depth h = refl
-no-shift Luma depth h = simp h
-no-shift First depth h = simp h
-no-shift Second depth h = simp h
-
 pub down-biplanar : (layout : Layout) (depth : ℕ) → biplanar layout ≡ true → 9 ≤ depth → depth ≤ 16 → 8 ≡ down layout depth
 down-biplanar layout depth b low high = rw (b, le-leb 9 depth low) (omega arith)
 

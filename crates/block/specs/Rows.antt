@@ -1,14 +1,13 @@
 -- How the private functions read the rows of a picture. No public contract cites this file. Assumes nothing.
 use Prim.Native.Nat.{ℕ, _+_, _-_, _*_, _/_, _%_, _^_, _≤_, _<_}
 use mathlib.Core.Path.{_≡_}
-use mathlib.Core.Bool.{Bool, true, false, _&&_}
+use mathlib.Core.Bool.{Bool, true, _&&_}
 use mathlib.Core.List.{List}
 use lib.Dec.{leb}
 use lib.ListN.{length, getD}
 use Rattle.plane.specs.declared.Shape.{Shape}
 use Rattle.plane.specs.declared.Layout.{Layout}
-use Rattle.plane.specs.declared.Layout.the-variants.{Planar, Luma, First, Second}
-use Rattle.plane.specs.Plane.{goodShape, planeBytes, shift}
+use Rattle.plane.specs.Plane.{alone, goodShape, planeBytes, shift}
 use Rattle.block.specs.Block.{keptOf}
 
 -- What a call that gets 0 has passed: the shape is within the bounds, the plane has the bytes that it needs, the store has room for the frame.
@@ -27,13 +26,6 @@ pub record RowReady (s : Shape) (bytes y : ℕ) : Type 0 where
 pub record KeptRow (row bytes : List ℕ) (s : Shape) (y : ℕ) : Type 0 where
   pub wide : length row ≡ s .width
   pub sample : (x : ℕ) → x < s .width → getD row x 0 ≡ keptOf bytes s x y
-
--- a row holds samples of one component
-abbrev pub alone : Layout → Bool
-alone Planar = true
-alone Luma = true
-alone First = false
-alone Second = false
 
 -- its bytes are its kept samples
 abbrev pub byteRows : Shape → Bool

@@ -13,10 +13,9 @@ ghost use Rattle.laws.specs.Refusal.{whenDone, written};
 ghost use Rattle.laws.specs.Rows.{listed, over};
 ghost use Rattle.laws.specs.Sums.{sumOver, apart};
 ghost use Rattle.field.specs.Field.{firstRowOf};
-ghost use Rattle.plane.specs.Plane.{biplanar};
 ghost use Rattle.block.specs.Block.{keptOf, keptFrame, rowsOf, oneIf, differs, blocksAcross, bandsDown, totalOf, busyField};
 ghost use Rattle.block.specs.Answer.{countedNo, countedValues, countsOf, countNo, keepNo};
-ghost use Rattle.block.specs.Rows.{Ready, RowReady, KeptRow, alone, byteRows, down, pairKept};
+ghost use Rattle.block.specs.Rows.{Ready, RowReady, KeptRow, byteRows, down, pairKept};
 ghost use Rattle.block.specs.Counters.{differingIn, differingRow, bandRow, busyBy, Counters, Added};
 use plane::Layout;
 use plane::Shape;
@@ -42,34 +41,11 @@ fn part_at(bytes: &[u8], start: usize, n: usize) -> &[u8]
 
 // ---- rows as they are kept
 
-// A row with samples of one component only can be read from end to end.
-fn is_alone(layout: Layout) -> bool
-    ensures { λ r. ⌜ r ≡ alone layout ⌝ }
-{
-    match layout {
-        Layout::Planar => true,
-        Layout::Luma => true,
-        Layout::First => false,
-        Layout::Second => false,
-    }
-}
-
 fn has_byte_rows(shape: Shape) -> bool
     ensures { λ r. ⌜ r ≡ byteRows shape ⌝ }
 {
     let layout = shape.layout;
-    is_alone(layout) & (shape.depth <= 8)
-}
-
-fn is_biplanar(layout: Layout) -> bool
-    ensures { λ r. ⌜ r ≡ biplanar layout ⌝ }
-{
-    match layout {
-        Layout::Planar => false,
-        Layout::Luma => true,
-        Layout::First => true,
-        Layout::Second => true,
-    }
+    plane::is_alone(layout) & (shape.depth <= 8)
 }
 
 // A biplanar code goes right by 16 - depth and then by depth - 8.
@@ -77,7 +53,7 @@ fn down_of(layout: Layout, depth: u8) -> u16
     requires { ⌜ (9 ≤ depth) × (depth ≤ 16) ⌝ }
     ensures { λ r. ⌜ (r ≡ down layout depth) × (r ≤ 8) ⌝ }
 {
-    if is_biplanar(layout) {
+    if plane::is_biplanar(layout) {
         8
     } else {
         depth as u16 - 8
@@ -154,7 +130,7 @@ fn keep_row(to: &mut [u8], plane: &[u8], shape: Shape, y: usize)
         return;
     }
     let layout = shape.layout;
-    if is_alone(layout) {
+    if plane::is_alone(layout) {
         let start = y * (shape.stride as usize);
         let bytes = (shape.width as usize) * 2;
         keep_pairs(

@@ -1,29 +1,22 @@
 -- Where the samples of a row stand, as `samples` walks them: from a place on, by one step a sample. Assumes nothing.
-use mathlib.Core.Path.{_≡_, refl, _∙_, ap}
-use mathlib.Core.Bool.{Bool, true, false, cond, _&&_}
+use mathlib.Core.Path.{_≡_, sym, _∙_, ap}
+use mathlib.Core.Bool.{Bool, cond}
 use mathlib.Core.List.{List}
 use Prim.Native.Nat.{ℕ, _+_, _-_, _*_, _≤_, _<_, min}
-use native.Mathlib.Nat.{suc-mul, mul-comm, mul-assoc, mul-add, mul-le-mul-right}
-use native.Mathlib.Numerals.{add-one}
+use native.Mathlib.Nat.{mul-comm, mul-assoc, mul-add}
 use native.Mathlib.Omega.{arith}
 use borrow.Author.Tests.{le-leb, lt-leb}
-use lib.Dec.{leb, lit<}
+use lib.Dec.{leb}
 use lib.IntN.{pos}
 use lib.ListN.{length}
 use lib.Ieee.{Float, binary32, ofInt}
 use Rattle.plane.specs.declared.Shape.{Shape}
 use Rattle.plane.specs.declared.Layout.{Layout}
-use Rattle.plane.specs.declared.Layout.the-variants.{Planar, Luma, First, Second}
-use Rattle.plane.specs.Plane.{components, component, sampleBytes, rowBytes, startOf, biplanar, shift, codeOf, fullCode, valueOf}
+use Rattle.plane.specs.Plane.{components, component, sampleBytes, startOf, shift, codeOf, fullCode, valueOf}
+use Rattle.plane.proofs.Places.{no-shift, component-low, in-plane}
 use Rattle.fill.specs.Lines.{Lent, storedValue}
 
 -- ---- a layout
-
-component-low : (layout : Layout) → component layout + 1 ≤ components layout
-component-low Planar = lit< tt
-component-low Luma = lit< tt
-component-low First = lit< tt
-component-low Second = lit< tt
 
 -- by the test on their number, components stand alone or share the plane
 pub alone : (layout : Layout) {n : ℕ} → n ≡ components layout → n ≤ 1 → components layout ≡ 1
@@ -31,13 +24,6 @@ alone layout e h = omega (arith, component-low layout)
 
 pub shared : (layout : Layout) {n : ℕ} → n ≡ components layout → n ≤ 2 → 1 < n → components layout ≡ 2
 shared layout e h k = omega arith
-
-never-both : (b : Bool) → (b && false) ≡ false
-never-both true = refl
-never-both false = refl
-
-pub unshifted : (layout : Layout) (depth : ℕ) → depth ≤ 8 → 0 ≡ shift layout depth
-unshifted layout depth h = simp (lt-leb 9 depth (omega arith), never-both (biplanar layout))
 
 -- ---- a walk along the row: `depth` and `slide` stand for the plane's depth and shift
 
@@ -50,14 +36,16 @@ pub record Walk (s : Shape) (row at step depth slide : ℕ) : Type 0 where
 -- one byte a sample, or two
 module _ (s : Shape) (row : ℕ) {at k : ℕ} (a : at ≡ row * s .stride) (e : k ≡ component (s .layout)) where
   pub walk-bytes : {step : ℕ} → s .depth ≤ 8 → step ≡ components (s .layout) → Walk s row (at + k) step 8 0
-  walk-bytes h n = record { start = omega arith; pace = omega arith; deep = le-leb (s .depth) 8 h; slid = unshifted (s .layout) (s .depth) h }
+  walk-bytes h n = record {
+    start = omega arith;
+    pace = omega arith;
+    deep = le-leb (s .depth) 8 h;
+    slid = sym (no-shift (s .layout) (s .depth) (lt-leb 9 (s .depth) (omega arith)));
+  }
 
   pub walk-pairs :
       {step slide : ℕ} → 8 < s .depth → step ≡ 2 * components (s .layout) → slide ≡ shift (s .layout) (s .depth) → Walk s row (at + 2 * k) step 16 slide
   walk-pairs h n d = record { start = omega arith; pace = n; deep = lt-leb (s .depth) 8 h; slid = d }
-
-step-mul : (n w : ℕ) → (n + 1) * w ≡ n * w + w
-step-mul n w = rw add-one (suc-mul n w)
 
 -- one product of the walk is the definition's
 turned : (b n k x : ℕ) → b * k + b * n * x ≡ (x * n + k) * b
@@ -82,28 +70,10 @@ module _ {s : Shape} {row at step depth slide : ℕ} (w : Walk s row at step dep
       omega (arith, p, e, t, w .start)
 
 -- every sample of the row is lent
-module _ (s : Shape) (bytes row : ℕ) (lent : Lent s bytes) (inside : row < s .height) where
-  lanes : (x : ℕ) → x < s .width → (x * components (s .layout) + component (s .layout)) * sampleBytes (s .depth) + sampleBytes (s .depth) ≤ rowBytes s
-  lanes x l =
-      let n = components (s .layout) in
-      let k = component (s .layout) in
-      let b = sampleBytes (s .depth) in
-      let m : (x + 1) * n ≤ s .width * n = mul-le-mul-right n (omega arith) in
-      let c : x * n + k + 1 ≤ s .width * n = omega (arith, m, step-mul x n, component-low (s .layout)) in
-      let d : (x * n + k + 1) * b ≤ s .width * n * b = mul-le-mul-right b c in
-      omega (arith, d, step-mul (x * n + k) b)
-
-  in-plane : (x : ℕ) → x < s .width → startOf s x row + sampleBytes (s .depth) ≤ bytes
-  in-plane x l =
-      let m : row * s .stride ≤ (s .height - 1) * s .stride = mul-le-mul-right (s .stride) (omega arith) in
-      let r = lanes x l in
-      let h = lent .whole in
-      omega (arith, m, r, h)
-
 module _ {s : Shape} {row at step depth slide : ℕ} (bytes : List ℕ) (lent : Lent s (length bytes)) (inside : row < s .height) (w : Walk s row at step depth slide) where
   pub walk-within : (x : ℕ) → x < s .width → at + step * x + sampleBytes depth ≤ length bytes
   walk-within x l =
-      let h = in-plane s (length bytes) row lent inside x l in
+      let h = in-plane s x row l inside (length bytes) (lent .whole) in
       let e = same-width w in
       let p = at-start w x in
       omega (arith, h, e, p)

@@ -13,7 +13,7 @@ ghost use lib.ListN.{length};
 ghost use lib.IntN.{ℤ, pos};
 ghost use Rattle.laws.specs.Refusal.{written};
 ghost use Rattle.laws.specs.Rows.{listed, over};
-ghost use Rattle.plane.specs.Plane.{components, component, sampleBytes, biplanar, shift, storedAt, valueOf};
+ghost use Rattle.plane.specs.Plane.{sampleBytes, storedAt, valueOf};
 ghost use Rattle.plane.specs.Coordinates.{held};
 ghost use Rattle.filter.specs.Filter.{bobOf, yadifOf, bwdifOf};
 ghost use Rattle.scanline.specs.Rows.{RowOf, Around, Three, Motion};
@@ -21,48 +21,7 @@ ghost use Rattle.fill.specs.Fill.{lineOf, linesOf, planeNo, fieldRows};
 ghost use Rattle.fill.specs.Band.{bandOf, bandNo};
 ghost use Rattle.fill.specs.Lines.{Lent, Ready, TwoRooms, ThreeRooms, EightRooms, TenRooms, storedValue, Filled, Padded, keptOf};
 
-// ---- a row of the source, expanded. What follows from a layout is as in crate `plane`, which keeps it to
-// itself.
-
-fn components_of(layout: plane::Layout) -> usize
-    ensures { λ r. ⌜ (r ≡ components layout) × (r ≤ 2) ⌝ }
-{
-    match layout {
-        plane::Layout::Planar => 1,
-        plane::Layout::Luma => 1,
-        plane::Layout::First => 2,
-        plane::Layout::Second => 2,
-    }
-}
-
-fn component_of(layout: plane::Layout) -> usize
-    ensures { λ r. ⌜ (r ≡ component layout) × (r ≤ 1) ⌝ }
-{
-    match layout {
-        plane::Layout::Planar => 0,
-        plane::Layout::Luma => 0,
-        plane::Layout::First => 0,
-        plane::Layout::Second => 1,
-    }
-}
-
-fn is_biplanar(layout: plane::Layout) -> bool
-    ensures { λ r. ⌜ r ≡ biplanar layout ⌝ }
-{
-    match layout {
-        plane::Layout::Planar => false,
-        plane::Layout::Luma => true,
-        plane::Layout::First => true,
-        plane::Layout::Second => true,
-    }
-}
-
-fn shift_of(layout: plane::Layout, depth: u8) -> u8
-    requires { ⌜ (9 ≤ depth) × (depth ≤ 16) ⌝ }
-    ensures { λ r. ⌜ (r ≡ shift layout depth) × (r ≤ 7) ⌝ }
-{
-    if is_biplanar(layout) { 16 - depth } else { 0 }
-}
+// ---- a row of the source, expanded
 
 fn wide(byte: u8) -> u16
     ensures { λ r. ⌜ (r ≡ byte) × (r < 256) ⌝ }
@@ -144,8 +103,8 @@ fn samples(dst: &mut [f32; 8204], src: &[u8], s: plane::Shape, row: usize)
     let width = s.width as usize;
     let full = plane::full_value(s.depth);
     let at = start(row, s.stride);
-    let component = component_of(layout);
-    let shared = components_of(layout);
+    let component = plane::component_of(layout);
+    let shared = plane::components_of(layout);
     if s.depth <= 8 {
         if shared <= 1 {
             scan(dst, src, at + component, 1, width, 8, 0, full);
@@ -154,7 +113,7 @@ fn samples(dst: &mut [f32; 8204], src: &[u8], s: plane::Shape, row: usize)
         scan(dst, src, at + component, 2, width, 8, 0, full);
         return;
     }
-    let shift = shift_of(layout, s.depth);
+    let shift = plane::shift_of(layout, s.depth);
     if shared <= 1 {
         scan(dst, src, at + 2 * component, 2, width, 16, shift, full);
         return;

@@ -2,4 +2,5 @@
 pub mod Full
 pub mod Coordinates
 pub mod Bounds
+pub mod Places
 pub mod Claims

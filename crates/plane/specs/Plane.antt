@@ -28,6 +28,13 @@ component Luma = 0
 component First = 0
 component Second = 1
 
+-- a row holds samples of one component
+abbrev pub alone : Layout → Bool
+alone Planar = true
+alone Luma = true
+alone First = false
+alone Second = false
+
 -- Depth 8 stores one byte a sample, above that two.
 abbrev pub sampleBytes : ℕ → ℕ
 sampleBytes depth = cond (leb depth 8) 1 2

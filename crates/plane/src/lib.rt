@@ -4,19 +4,20 @@
 // lent slice beside its shape, the layout is an enum, and what is out of bounds is refused by number.
 //
 // A plane of samples: its shape and bounds, and what stands at a place. Narrow types make every place
-// of every shape a u64, and a read past the end gives 0, so the functions below the two public reads
+// of every shape a u64, and a read past the end gives 0, so the public functions below the two reads
 // take every input too. Assumes nothing.
 pub mod refusal;
 
 ghost use mathlib.Core.Path.{_≡_};
 ghost use Prim.Native.Nat.{_+_, _*_, _-_, _<_, _≤_, _^_, min, max};
+ghost use lib.Dec.{eqb};
 ghost use lib.IntN.{pos, natAbs};
 ghost use lib.ListN.{length, getD};
 ghost use lib.Ieee as Ieee;
 ghost use lib.Ieee.{binary32};
 ghost use Rattle.laws.specs.Refusal.{lowest, whenDone};
 ghost use Rattle.float.specs.Bounds.{Small};
-ghost use Rattle.plane.specs.Plane.{components, component, sampleBytes, rowBytes, goodShape, planeBytes, startOf, storedAt, biplanar, shift, codeOf, fullCode, valueOf, agree, half, chromaAgrees, planarOf, biplanarOf};
+ghost use Rattle.plane.specs.Plane.{components, component, alone, sampleBytes, rowBytes, goodShape, planeBytes, startOf, storedAt, biplanar, shift, codeOf, fullCode, valueOf, agree, half, chromaAgrees, planarOf, biplanarOf};
 ghost use Rattle.plane.specs.Coordinates.{inReach, inside, held, parityOf, biasOf, unbiased};
 ghost use Rattle.plane.specs.Answer.{sampledNo, sampledValues, codedNo, codedValues, readTests, codeNo, atNo};
 
@@ -60,7 +61,7 @@ pub enum Sampled {
 // How far a coordinate is moved to be held as a natural number: even, so that a row keeps its parity.
 const BIAS: u32 = 65544;
 
-fn components_of(layout: Layout) -> usize
+pub fn components_of(layout: Layout) -> usize
     ensures { λ r. ⌜ (r ≡ components layout) × (r ≤ 2) ⌝ }
 {
     match layout {
@@ -71,7 +72,7 @@ fn components_of(layout: Layout) -> usize
     }
 }
 
-fn component_of(layout: Layout) -> usize
+pub fn component_of(layout: Layout) -> usize
     ensures { λ r. ⌜ (r ≡ component layout) × (r ≤ 1) ⌝ }
 {
     match layout {
@@ -82,7 +83,7 @@ fn component_of(layout: Layout) -> usize
     }
 }
 
-fn is_biplanar(layout: Layout) -> bool
+pub fn is_biplanar(layout: Layout) -> bool
     ensures { λ r. ⌜ r ≡ biplanar layout ⌝ }
 {
     match layout {
@@ -90,6 +91,18 @@ fn is_biplanar(layout: Layout) -> bool
         Layout::Luma => true,
         Layout::First => true,
         Layout::Second => true,
+    }
+}
+
+// A row with samples of one component only can be read from end to end.
+pub fn is_alone(layout: Layout) -> bool
+    ensures { λ r. ⌜ r ≡ alone layout ⌝ }
+{
+    match layout {
+        Layout::Planar => true,
+        Layout::Luma => true,
+        Layout::First => false,
+        Layout::Second => false,
     }
 }
 
@@ -199,7 +212,7 @@ fn stored_at(plane: &[u8], depth: u8, i: usize) -> u16
     byte_at(plane, i) + 256 * byte_at(plane, i + 1)
 }
 
-fn shift_of(layout: Layout, depth: u8) -> u8
+pub fn shift_of(layout: Layout, depth: u8) -> u8
     ensures { λ r. ⌜ (r ≡ shift layout depth) × (r ≤ 7) ⌝ }
 {
     if is_biplanar(layout) & (9 <= depth) {
@@ -209,12 +222,31 @@ fn shift_of(layout: Layout, depth: u8) -> u8
     }
 }
 
-// The one place where a code is read, of any shape; 0 past the end.
+// A code, of any shape; 0 past the end.
 pub fn code_at(plane: &[u8], s: Shape, x: u16, y: u16) -> u16
     ensures { λ r. ⌜ r ≡ codeOf (now (plane .entry)) s x y ⌝ }
 {
     let layout = s.layout;
     stored_at(plane, s.depth, start_of(s, x, y)) >> shift_of(layout, s.depth)
+}
+
+// A code whose sample is known to stand in the plane, read with no test for the end.
+fn stored_inside(plane: &[u8], depth: u8, i: usize) -> u16
+    requires { ⌜ i + sampleBytes depth ≤ length (now plane) ⌝ }
+    ensures { λ r. ⌜ r ≡ storedAt (now (plane .entry)) depth i ⌝ }
+{
+    if depth <= 8 {
+        return wide(plane[i]);
+    }
+    wide(plane[i]) + 256 * wide(plane[i + 1])
+}
+
+fn code_inside(plane: &[u8], s: Shape, x: u16, y: u16) -> u16
+    requires { ⌜ (x < s .width) × (y < s .height) × (planeBytes s ≤ length (now plane)) ⌝ }
+    ensures { λ r. ⌜ r ≡ codeOf (now (plane .entry)) s x y ⌝ }
+{
+    let layout = s.layout;
+    stored_inside(plane, s.depth, start_of(s, x, y)) >> shift_of(layout, s.depth)
 }
 
 // The coordinate c - 65,544 brought into 0 .. size - 1.
@@ -298,16 +330,22 @@ fn read_no(coordinates: bool, s: Shape, bytes: usize) -> u8
     )
 }
 
+// Whether that number is 0: one test, so that a read does not wait for the number.
+fn may_read(coordinates: bool, s: Shape, bytes: usize) -> bool
+    ensures { λ r. ⌜ r ≡ eqb (lowest (readTests coordinates s bytes)) 0 ⌝ }
+{
+    coordinates & good_shape(s) & (plane_bytes(s) <= bytes)
+}
+
 // The code at a place inside the plane.
 pub fn code(plane: &[u8], s: Shape, x: i32, y: i32) -> Coded
     ensures { λ r. ⌜ (codedNo r ≡ codeNo s (length (now (plane .entry))) x y) × (codedValues r ≡ whenDone (codeNo s (length (now (plane .entry))) x y) (codeOf (now (plane .entry)) s (natAbs x) (natAbs y))) ⌝ }
 {
     let inner = is_inside(x, s.width) & is_inside(y, s.height);
-    let no = read_no(inner, s, plane.len());
-    if no == 0 {
-        Coded::Value(code_at(plane, s, x as u16, y as u16))
+    if may_read(inner, s, plane.len()) {
+        Coded::Value(code_inside(plane, s, x as u16, y as u16))
     } else {
-        Coded::Refused(no)
+        Coded::Refused(read_no(inner, s, plane.len()))
     }
 }
 
@@ -315,11 +353,11 @@ pub fn code(plane: &[u8], s: Shape, x: i32, y: i32) -> Coded
 pub fn at(plane: &[u8], s: Shape, x: i32, y: i32) -> Sampled
     ensures { λ r. ⌜ (sampledNo r ≡ atNo s (length (now (plane .entry))) x y) × (sampledValues r ≡ whenDone (atNo s (length (now (plane .entry))) x y) (valueOf (now (plane .entry)) s x y)) ⌝ }
 {
-    let no = read_no(in_reach(x) & in_reach(y), s, plane.len());
-    if no == 0 {
+    let reached = in_reach(x) & in_reach(y);
+    if may_read(reached, s, plane.len()) {
         Sampled::Value(value_at(plane, s, biased(x), biased(y)))
     } else {
-        Sampled::Refused(no)
+        Sampled::Refused(read_no(reached, s, plane.len()))
     }
 }
 

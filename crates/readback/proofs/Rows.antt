@@ -13,11 +13,12 @@ use Rattle.laws.proofs.Lists.{part-at, same-laid, length-laid}
 use Rattle.plane.specs.declared.Shape.{Shape}
 use Rattle.plane.specs.declared.Layout.{Layout}
 use Rattle.plane.specs.declared.Layout.the-variants.{Planar, Luma, First, Second}
-use Rattle.plane.specs.Plane.{components, component, sampleBytes, rowBytes, shift, codeOf}
+use Rattle.plane.specs.Plane.{alone, components, component, sampleBytes, rowBytes, shift, codeOf}
+use Rattle.plane.proofs.Places.{no-shift}
 use Rattle.readback.specs.declared.Kind.{Kind}
 use Rattle.readback.specs.declared.Kind.the-variants.{Byte, EverySecondByte, Pair, EverySecondPair}
 use Rattle.readback.specs.Readback.{codeBytes, copiedRow}
-use Rattle.readback.specs.Inner.{alone, kindBy, kindOf, stepOf, sizeOf, pairOf, copyIn}
+use Rattle.readback.specs.Inner.{kindBy, kindOf, stepOf, sizeOf, pairOf, copyIn}
 
 -- ---- how long rows are
 step-by : (byte : Bool) (layout : Layout) → stepOf (kindBy byte (alone layout)) ≡ components layout * cond byte 1 2
@@ -85,12 +86,6 @@ module _ (bytes : List ℕ) (start width x : ℕ) (l : x < width) where
   pair-there Luma right = two-there (width * 2) (x * 2) right (omega arith) (omega arith)
   pair-there First right = two-there (width * 4) ((x * 2 + 0) * 2) right (omega arith) (omega arith)
   pair-there Second right = two-there (width * 4) ((x * 2 + 1) * 2) right (omega arith) (omega arith)
-
-no-shift : (layout : Layout) (depth : ℕ) → leb 9 depth ≡ false → shift layout depth ≡ 0
-no-shift Planar depth h = refl
-no-shift Luma depth h = simp h
-no-shift First depth h = simp h
-no-shift Second depth h = simp h
 
 -- column x of row y, copied by its kind
 column-copied :

@@ -1,24 +1,15 @@
 -- How the inner functions copy a row. Only inner functions cite this file. Assumes nothing.
 use Prim.Native.Nat.{ℕ, _+_, _*_, _/_, _%_, _^_, _≤_}
 use mathlib.Core.Path.{_≡_}
-use mathlib.Core.Bool.{Bool, true, false, cond}
+use mathlib.Core.Bool.{Bool, true, cond}
 use mathlib.Core.List.{List, [], _∷_}
 use lib.Dec.{leb}
 use lib.ListN.{length, getD}
 use Rattle.plane.specs.declared.Shape.{Shape}
-use Rattle.plane.specs.declared.Layout.{Layout}
-use Rattle.plane.specs.declared.Layout.the-variants.{Planar, Luma, First, Second}
-use Rattle.plane.specs.Plane.{goodShape, planeBytes}
+use Rattle.plane.specs.Plane.{alone, goodShape, planeBytes}
 use Rattle.readback.specs.declared.Kind.{Kind}
 use Rattle.readback.specs.declared.Kind.the-variants.{Byte, EverySecondByte, Pair, EverySecondPair}
 use Rattle.readback.specs.Readback.{packedBytes}
-
--- a row holds samples of one component
-abbrev pub alone : Layout → Bool
-alone Planar = true
-alone Luma = true
-alone First = false
-alone Second = false
 
 abbrev pub kindBy : Bool → Bool → Kind
 kindBy byte one = cond byte (cond one Byte EverySecondByte) (cond one Pair EverySecondPair)

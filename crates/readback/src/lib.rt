@@ -15,9 +15,9 @@ ghost use lib.ListN.{length, getD, take, drop};
 ghost use Rattle.laws.specs.Refusal.{lowest, written};
 ghost use Rattle.laws.specs.Rows.{laid, over};
 ghost use Rattle.plane.specs.declared.Layout.the-variants.{Luma};
-ghost use Rattle.plane.specs.Plane.{component, sampleBytes, goodShape, planeBytes, biplanar, shift, half};
+ghost use Rattle.plane.specs.Plane.{sampleBytes, goodShape, planeBytes, half};
 ghost use Rattle.readback.specs.Readback.{lumaShape, shared, cbShape, crShape, crBytes, packedBytes, readbackNo, copiedOf};
-ghost use Rattle.readback.specs.Inner.{alone, kindOf, stepOf, copyIn, RowRoom, PlaneReady};
+ghost use Rattle.readback.specs.Inner.{kindOf, stepOf, copyIn, RowRoom, PlaneReady};
 ghost use Rattle.readback.specs.declared.Kind.the-variants.{Byte, EverySecondByte, Pair, EverySecondPair};
 use plane::Layout;
 use plane::Shape;
@@ -292,62 +292,18 @@ fn copy_row(kind: Kind, to: &mut [u8], row: &[u8], width: usize, lane: usize, ri
     }
 }
 
-fn is_alone(layout: Layout) -> bool
-    ensures { λ r. ⌜ r ≡ alone layout ⌝ }
-{
-    match layout {
-        Layout::Planar => true,
-        Layout::Luma => true,
-        Layout::First => false,
-        Layout::Second => false,
-    }
-}
-
-fn lane_of(layout: Layout) -> usize
-    ensures { λ r. ⌜ (r ≡ component layout) × (r ≤ 1) ⌝ }
-{
-    match layout {
-        Layout::Planar => 0,
-        Layout::Luma => 0,
-        Layout::First => 0,
-        Layout::Second => 1,
-    }
-}
-
-fn is_biplanar(layout: Layout) -> bool
-    ensures { λ r. ⌜ r ≡ biplanar layout ⌝ }
-{
-    match layout {
-        Layout::Planar => false,
-        Layout::Luma => true,
-        Layout::First => true,
-        Layout::Second => true,
-    }
-}
-
-fn shift_of(layout: Layout, depth: u8) -> u16
-    requires { ⌜ depth ≤ 16 ⌝ }
-    ensures { λ r. ⌜ (r ≡ shift layout depth) × (r ≤ 7) ⌝ }
-{
-    if is_biplanar(layout) & (9 <= depth) {
-        16 - depth as u16
-    } else {
-        0
-    }
-}
-
 fn kind_of(s: Shape) -> Kind
     ensures { λ r. ⌜ r ≡ kindOf s ⌝ }
 {
     let layout = s.layout;
     if s.depth <= 8 {
-        if is_alone(layout) {
+        if plane::is_alone(layout) {
             Kind::Byte
         } else {
             Kind::EverySecondByte
         }
     } else {
-        if is_alone(layout) {
+        if plane::is_alone(layout) {
             Kind::Pair
         } else {
             Kind::EverySecondPair
@@ -382,8 +338,8 @@ fn copy_rows(out: &mut [u8], plane: &[u8], s: Shape)
 {
     let layout = s.layout;
     let kind = kind_of(s);
-    let lane = lane_of(layout);
-    let right = shift_of(layout, s.depth);
+    let lane = plane::component_of(layout);
+    let right = plane::shift_of(layout, s.depth) as u16;
     let width = s.width as usize;
     let stride = s.stride as usize;
     let taken = width * step_of(kind);

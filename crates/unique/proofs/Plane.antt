@@ -1,12 +1,22 @@
 -- Nothing else would satisfy a contract of `plane`. Assumes nothing.
 use mathlib.Core.Path.{refl}
 use Rattle.plane.proofs.Claims.{one-coded, one-sampled}
+use Rattle.plane.proofs.components_of.Kinds as components-of-kinds
+use Rattle.plane.proofs.components_of.Reads as components-of
+use Rattle.plane.proofs.component_of.Kinds as component-of-kinds
+use Rattle.plane.proofs.component_of.Reads as component-of
+use Rattle.plane.proofs.is_biplanar.Kinds as is-biplanar-kinds
+use Rattle.plane.proofs.is_biplanar.Reads as is-biplanar
+use Rattle.plane.proofs.is_alone.Kinds as is-alone-kinds
+use Rattle.plane.proofs.is_alone.Reads as is-alone
 use Rattle.plane.proofs.within.Kinds as within-kinds
 use Rattle.plane.proofs.within.Reads as within
 use Rattle.plane.proofs.good_shape.Kinds as good-shape-kinds
 use Rattle.plane.proofs.good_shape.Reads as good-shape
 use Rattle.plane.proofs.plane_bytes.Kinds as plane-bytes-kinds
 use Rattle.plane.proofs.plane_bytes.Reads as plane-bytes
+use Rattle.plane.proofs.shift_of.Kinds as shift-of-kinds
+use Rattle.plane.proofs.shift_of.Reads as shift-of
 use Rattle.plane.proofs.code_at.Kinds as code-at-kinds
 use Rattle.plane.proofs.code_at.Reads as code-at
 use Rattle.plane.proofs.full_value.Kinds as full-value-kinds
@@ -36,6 +46,18 @@ use Rattle.plane.proofs.refusal.lowest_of.Reads as lowest-of
 use Rattle.unique.specs.Unique.{OneAnswer}
 use Rattle.unique.proofs.Law.{same}
 
+pub components-of-once : OneAnswer 0 components-of-kinds.ps components-of-kinds.r components-of.Post
+components-of-once κs a x y u v p q = (same (p .0) (q .0), refl)
+
+pub component-of-once : OneAnswer 0 component-of-kinds.ps component-of-kinds.r component-of.Post
+component-of-once κs a x y u v p q = (same (p .0) (q .0), refl)
+
+pub is-biplanar-once : OneAnswer 0 is-biplanar-kinds.ps is-biplanar-kinds.r is-biplanar.Post
+is-biplanar-once κs a x y u v p q = (same p q, refl)
+
+pub is-alone-once : OneAnswer 0 is-alone-kinds.ps is-alone-kinds.r is-alone.Post
+is-alone-once κs a x y u v p q = (same p q, refl)
+
 pub within-once : OneAnswer 0 within-kinds.ps within-kinds.r within.Post
 within-once κs a x y u v p q = (same p q, refl)
 
@@ -44,6 +66,9 @@ good-shape-once κs a x y u v p q = (same p q, refl)
 
 pub plane-bytes-once : OneAnswer 0 plane-bytes-kinds.ps plane-bytes-kinds.r plane-bytes.Post
 plane-bytes-once κs a x y u v p q = (same p q, refl)
+
+pub shift-of-once : OneAnswer 0 shift-of-kinds.ps shift-of-kinds.r shift-of.Post
+shift-of-once κs a x y u v p q = (same (p .0) (q .0), refl)
 
 pub code-at-once : OneAnswer 1 code-at-kinds.ps code-at-kinds.r code-at.Post
 code-at-once κs a x y u v p q = (same p q, refl)

@@ -1,19 +1,10 @@
 -- `fill::stored` meets its contract. Assumes nothing.
-use mathlib.Core.Path.{_≡_}
-use Prim.Native.Nat.{ℕ, _≤_, _<_}
 use native.Mathlib.Omega.{arith}
 use borrow.Author.Tests.{le-leb, lt-leb}
 use borrow.Author.Needs.{needs}
-use Rattle.plane.specs.Plane.{sampleBytes}
+use Rattle.plane.proofs.Places.{width-short, width-long}
 use Rattle.fill.proofs.stored.Statement.{statement}
 use Rattle.fill.proofs.stored.Tie as tie
-
--- one byte, or two
-width-short : (depth : ℕ) → depth ≤ 8 → sampleBytes depth ≡ 1
-width-short depth h = simp (le-leb depth 8 h)
-
-width-long : (depth : ℕ) → 8 < depth → sampleBytes depth ≡ 2
-width-long depth h = simp (lt-leb depth 8 h)
 
 shared-slice-read-wide : tie.Need-shared-slice-read-wide
 shared-slice-read-wide c = omega (arith, width-short _ (c .before .if1 .taken))

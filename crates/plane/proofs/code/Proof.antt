@@ -1,6 +1,6 @@
 -- `plane::code` meets its contract. Assumes nothing.
 use mathlib.Core.Path.{_≡_, refl, sym, ap, _∙_, subst}
-use mathlib.Core.Bool.{Bool, true, _&&_}
+use mathlib.Core.Bool.{true, _&&_}
 use Prim.Native.Nat.{ℕ, _<_}
 use native.Mathlib.Nat.{lt-trans}
 use native.Mathlib.Omega.{arith}
@@ -12,8 +12,9 @@ use denote.Ref.{now}
 use mir.Syntax.{w16}
 use mir.Val.{Fits}
 use mir.Facts.{toZ-ofZ}
+use borrow.Author.Tests.{eqb-true, eqb-false, leb-true}
 use Rattle.laws.specs.Refusal.{lowest}
-use Rattle.laws.proofs.Refusal.{gives, refuses, first-passes}
+use Rattle.laws.proofs.Refusal.{gives, refuses, first-passes, rest-passes}
 use Rattle.plane.specs.Plane.{codeOf}
 use Rattle.plane.specs.Answer.{readTests, codeNo}
 use Rattle.plane.specs.Coordinates.{inside}
@@ -22,40 +23,43 @@ use borrow.Author.Needs.{needs}
 use Rattle.plane.proofs.code.Statement.{statement}
 use Rattle.plane.proofs.code.Tie as tie
 
--- the tests of both coordinates, and the call's number
-x-test :
-    (c : tie.After-read-no) →
-    let a = c .before .before .before .before .args in
-    c .before .before .is-inside .result ≡ inside (a .s .width) (a .x)
-x-test c =
-    c .before .before .is-inside .ensures ∙ ap (inside (c .before .before .before .before .args .s .width)) (toZ-ofZ (c .before .before .before .before .fits .x))
+-- the call's own values
+abbrev entry : tie.After-may-read → tie.Start
+entry c = c .before .before .before .before
 
-y-test :
-    (c : tie.After-read-no) →
-    let a = c .before .before .before .before .args in
-    c .before .is-inside2 .result ≡ inside (a .s .height) (a .y)
-y-test c =
-    c .before .is-inside2 .ensures ∙ ap (inside (c .before .before .before .before .args .s .height)) (toZ-ofZ (c .before .before .before .before .fits .y))
+-- the tests of both coordinates, and the call's number
+x-test : (c : tie.After-may-read) → c .before .before .is-inside .result ≡ inside (entry c .args .s .width) (entry c .args .x)
+x-test c = c .before .before .is-inside .ensures ∙ ap (inside (entry c .args .s .width)) (toZ-ofZ (entry c .fits .x))
+
+y-test : (c : tie.After-may-read) → c .before .is-inside2 .result ≡ inside (entry c .args .s .height) (entry c .args .y)
+y-test c = c .before .is-inside2 .ensures ∙ ap (inside (entry c .args .s .height)) (toZ-ofZ (entry c .fits .y))
 
 number :
-    (c : tie.After-read-no) →
-    let a = c .before .before .before .before .args in
-    c .read-no .result ≡ codeNo (a .s) (length (now (a .plane))) (a .x) (a .y)
+    (c : tie.After-may-read) →
+    let a = entry c .args in
+    lowest (readTests (c .before .before .is-inside .result && c .before .is-inside2 .result) (a .s) (length (now (a .plane))))
+    ≡ codeNo (a .s) (length (now (a .plane))) (a .x) (a .y)
 number c =
-    let a = c .before .before .before .before .args in
-    c .read-no .ensures ∙ (λ i. lowest (readTests (x-test c i && y-test c i) (a .s) (length (now (a .plane)))))
+    let a = entry c .args in
+    (λ i. lowest (readTests (x-test c i && y-test c i) (a .s) (length (now (a .plane)))))
 
--- a call that gets 0 has both coordinates inside
+-- a call that may read gets 0, and has both coordinates inside and all bytes
+done : (c : tie.Then1) → let a = entry (c .before) .args in codeNo (a .s) (length (now (a .plane))) (a .x) (a .y) ≡ 0
+done c = sym (number (c .before)) ∙ eqb-true _ 0 (sym (c .before .may-read .ensures) ∙ c .if1 .taken)
+
 inner :
     (c : tie.Then1) →
-    let a = c .before .before .before .before .before .args in
+    let a = entry (c .before) .args in
     (inside (a .s .width) (a .x) ≡ true) × (inside (a .s .height) (a .y) ≡ true)
-inner c = both-inside _ _ (first-passes 3 _ _ (lit< tt) (sym (number (c .before)) ∙ c .if1 .taken))
+inner c = both-inside _ _ (first-passes 3 _ _ (lit< tt) (done c))
 
 -- a coordinate inside a plane, as the machine holds it, fits the narrow type
 narrow : (size : ℕ) (x : ℤ) {z : ℤ} → size < 65536 → inside size x ≡ true → z ≡ x → T (nonNeg z) × Fits w16 (natAbs z)
 narrow size x small h e =
     subst (λ (z : ℤ). T (nonNeg z) × Fits w16 (natAbs z)) (sym e) (inside-nonneg size x h, record { fits = lt-trans (inside-below size x h) small })
+
+below : (size : ℕ) (x : ℤ) {z : ℤ} → inside size x ≡ true → z ≡ x → natAbs z < size
+below size x h e = subst (λ (z : ℤ). natAbs z < size) (sym e) (inside-below size x h)
 
 is-inside-requires : tie.Need-is-inside-requires
 is-inside-requires c κs = search needs
@@ -63,31 +67,43 @@ is-inside-requires c κs = search needs
 is-inside-requires-2 : tie.Need-is-inside-requires-2
 is-inside-requires-2 c κs = search needs
 
+may-read-requires : tie.Need-may-read-requires
+may-read-requires c κs = search needs
+
+cast-code-inside : tie.Need-cast-code-inside
+cast-code-inside c =
+    let start = entry (c .before) in
+    narrow (start .args .s .width) (start .args .x) (omega arith) (inner c .0) (toZ-ofZ (start .fits .x))
+
+cast-code-inside-2 : tie.Need-cast-code-inside-2
+cast-code-inside-2 c =
+    let start = entry (c .before) in
+    narrow (start .args .s .height) (start .args .y) (omega arith) (inner c .1) (toZ-ofZ (start .fits .y))
+
+code-inside-requires : tie.Need-code-inside-requires
+code-inside-requires c κs =
+    let start = entry (c .before) in
+    let a = start .args in (
+      below (a .s .width) (a .x) (inner c .0) (toZ-ofZ (start .fits .x)),
+      below (a .s .height) (a .y) (inner c .1) (toZ-ofZ (start .fits .y)),
+      leb-true _ _ (first-passes 6 _ _ (lit< tt) (rest-passes 4 _ _ (lit< tt) (rest-passes 3 _ _ (lit< tt) (done c)))),
+    )
+
 read-no-requires : tie.Need-read-no-requires
 read-no-requires c κs = search needs
 
-cast-code-at : tie.Need-cast-code-at
-cast-code-at c =
-    let a = c .before .before .before .before .before .args in
-    narrow (a .s .width) (a .x) (omega arith) (inner c .0) (toZ-ofZ (c .before .before .before .before .before .fits .x))
-
-cast-code-at-2 : tie.Need-cast-code-at-2
-cast-code-at-2 c =
-    let a = c .before .before .before .before .before .args in
-    narrow (a .s .height) (a .y) (omega arith) (inner c .1) (toZ-ofZ (c .before .before .before .before .before .fits .y))
-
-code-at-requires : tie.Need-code-at-requires
-code-at-requires c κs = search needs
-
 returns : tie.Need-returns
 returns c =
-    let f = c .before .before .before .before .before .before .fits in
-    let a = c .before .before .before .before .before .before .args in
-    gives (number (c .before .before)) (c .before .if1 .taken)
-    (c .code-at .ensures ∙ (λ i. codeOf (now (a .plane)) (a .s) (natAbs (toZ-ofZ (f .x) i)) (natAbs (toZ-ofZ (f .y) i))))
+    let start = entry (c .before .before) in
+    let a = start .args in
+    gives refl (done (c .before))
+    (c .code-inside .ensures ∙ (λ i. codeOf (now (a .plane)) (a .s) (natAbs (toZ-ofZ (start .fits .x) i)) (natAbs (toZ-ofZ (start .fits .y) i))))
 
 returns-2 : tie.Need-returns-2
-returns-2 c = refuses _ (number (c .before)) (c .if1 .left)
+returns-2 c =
+    let test = c .before .before in
+    refuses _ (c .read-no .ensures ∙ number test)
+    (λ e. eqb-false _ 0 (sym (test .may-read .ensures) ∙ c .before .if1 .left) (sym (c .read-no .ensures) ∙ e))
 
 pub code-spec : {M : Type 1} → statement M
 code-spec =
@@ -95,9 +111,10 @@ code-spec =
     (tie.spec
     is-inside-requires
     is-inside-requires-2
+    may-read-requires
+    cast-code-inside
+    cast-code-inside-2
+    code-inside-requires
     read-no-requires
-    cast-code-at
-    cast-code-at-2
-    code-at-requires
     returns
     returns-2)

@@ -10,7 +10,6 @@ use Rattle.laws.specs.Rows.{laid, over}
 use Rattle.laws.proofs.Lists.{part-length, same-laid, Stacked, stack-starts, stacks, stack-ends}
 use Rattle.laws.proofs.Rows.{row-within, length-part}
 use Rattle.plane.specs.Plane.{rowBytes}
-use Rattle.plane.proofs.Bounds.{good-within}
 use Rattle.readback.specs.declared.Kind.{Kind}
 use Rattle.readback.specs.Readback.{copiedOf}
 use Rattle.readback.specs.Inner.{stepOf, sizeOf, copyIn}
@@ -36,7 +35,7 @@ abbrev kind : tie.After-packed-row Inv-loop μ-loop → Kind
 kind p = p .before .before .before .before .before .before .kind-of .result
 
 abbrev lane : tie.After-packed-row Inv-loop μ-loop → ℕ
-lane p = p .before .before .before .before .before .lane-of .result
+lane p = p .before .before .before .before .before .component-of .result
 
 abbrev right : tie.After-packed-row Inv-loop μ-loop → ℕ
 right p = p .before .before .before .before .shift-of .result
@@ -100,13 +99,14 @@ row-ends t =
 kind-of-requires : tie.Need-kind-of-requires Inv-loop μ-loop
 kind-of-requires c κs = search needs
 
-lane-of-requires : tie.Need-lane-of-requires Inv-loop μ-loop
-lane-of-requires c κs = search needs
+component-of-requires : tie.Need-component-of-requires Inv-loop μ-loop
+component-of-requires c κs = search needs
 
 shift-of-requires : tie.Need-shift-of-requires Inv-loop μ-loop
-shift-of-requires c κs =
-    let start = c .before .before .before .before in
-    good-within (start .args .s) (start .pre .good) .depth-most
+shift-of-requires c κs = search needs
+
+cast-right : tie.Need-cast-right Inv-loop μ-loop
+cast-right c = search needs
 
 cast-width : tie.Need-cast-width Inv-loop μ-loop
 cast-width c = search needs
@@ -161,7 +161,7 @@ copy-row-requires c κs =
         source = ap length (c .before .row-at .ensures) ∙ part-length (now (a .plane)) (l .y * a .s .stride) _ (row-ends turn) ∙ taken-by-kind found;
         target = length-part (l .y * size) size (l .out) (omega (arith, row-room turn)) ∙ sym (size-by-kind found);
       },
-      found .before .before .before .before .before .lane-of .ensures .1,
+      found .before .before .before .before .before .component-of .ensures .1,
       found .before .before .before .before .shift-of .ensures .1,
     )
 
@@ -193,7 +193,7 @@ returns c =
     (same-laid (a .s .height) _ _
     (λ y l.
     row-copied (now (a .plane)) (a .s) y (found .before .before .before .before .before .before .kind-of .ensures) (taken-by-kind found)
-    (found .before .before .before .before .before .lane-of .ensures .0) (found .before .before .before .before .shift-of .ensures .0)))
+    (found .before .before .before .before .before .component-of .ensures .0) (found .before .before .before .before .shift-of .ensures .0)))
 
 pub copy-rows-spec : {M : Type 1} → statement M
 copy-rows-spec =
@@ -202,8 +202,9 @@ copy-rows-spec =
     Inv-loop
     μ-loop
     kind-of-requires
-    lane-of-requires
+    component-of-requires
     shift-of-requires
+    cast-right
     cast-width
     cast-stride
     step-of-requires
