@@ -1,6 +1,7 @@
 //! Links the archives of the proved crates that export calls. For each of them
 //! `rt staticlib NAME` writes libNAME.a to target/staticlib at the root of the
-//! repository.
+//! repository. Where DESK_ARCHIVES names another folder (host/bench/on-arm does),
+//! its archives are linked, for whichever machine they are.
 
 use std::env;
 use std::path::PathBuf;
@@ -14,9 +15,14 @@ fn main() {
     folder.pop();
     folder.push("target/staticlib");
     println!("cargo::rerun-if-changed=build.rs");
+    println!("cargo::rerun-if-env-changed=DESK_ARCHIVES");
+    let named = env::var_os("DESK_ARCHIVES");
+    if let Some(other) = &named {
+        folder = PathBuf::from(other);
+    }
 
     let target = env::var("TARGET").expect("cargo sets TARGET");
-    let right_target = target == "x86_64-unknown-linux-gnu";
+    let right_target = named.is_some() || target == "x86_64-unknown-linux-gnu";
     if !right_target {
         println!(
             "cargo::error=the target is {target}, but the archives hold x86-64 code for Linux; \

@@ -47,5 +47,5 @@ state-passes true false state h = absurd (not-zero 4 tt h)
 state-passes true true false h = absurd (not-zero 6 tt h)
 state-passes true true true h = refl
 
-pub state-room : (named good : Bool) (room : ℕ) → firstStep named good (leb 208 room) ≡ 0 → 208 ≤ room
-state-room named good room h = leb-true 208 room (state-passes named good (leb 208 room) h)
+pub state-room : (named good : Bool) (room : ℕ) → firstStep named good (leb 96 room) ≡ 0 → 96 ≤ room
+state-room named good room h = leb-true 96 room (state-passes named good (leb 96 room) h)

@@ -2,27 +2,27 @@
 use Prim.Native.Nat.{ℕ, _+_, _*_, _%_, _<_, _^_}
 use mathlib.Core.Path.{_≡_, refl, sym, ap, subst, _∙_}
 use mathlib.Core.Bool.{Bool, true, false, not}
-use mathlib.Core.List.{List, [], _∷_}
+use mathlib.Core.List.{List, [], _∷_, _++_, append-assoc}
 use native.Mathlib.Nat.{mod-lt, mod-eq-of-lt, lt-trans}
 use native.Mathlib.Omega.{arith}
 use lib.Dec.{eqb, lit<}
-use lib.ListN.{length, getD, List·getD-append}
-use lib.Seq.{getD-append-add}
+use lib.ListN.{length, getD, drop, List·getD-append, length-append}
+use lib.Seq.{getD-append-add, getD-append-seam, drop-append-seam}
 use Rattle.laws.specs.Refusal.{rising}
 use Rattle.laws.proofs.Claims.{lowest-says}
-use Rattle.laws.proofs.Lists.{listed-at, same-listed}
+use Rattle.laws.proofs.Lists.{listed-at, listed-again, same-listed}
 use Rattle.field.specs.declared.Chosen.{Chosen}
 use Rattle.field.specs.declared.Chosen.the-variants as chosen
 use Rattle.field.specs.declared.Parity.{Parity}
 use Rattle.field.specs.declared.Parity.the-variants as parity
 use Rattle.field.specs.Field.{firstRowOf, parityNamed}
-use Rattle.packed.specs.Packed.{numberAt}
-use Rattle.packed.proofs.Claims.{reads-back}
+use Rattle.packed.specs.Packed.{packedOf, numberAt}
+use Rattle.packed.proofs.Claims.{packed-size, reads-back}
 use Rattle.telecine.specs.declared.Detector.{Detector}
-use Rattle.filmdesk.specs.Kept.{numberIf, chosenNumber, chosenNamed, detectorNumbers, detectorIn, keeping}
+use Rattle.filmdesk.specs.Kept.{numberIf, chosenNumber, chosenNamed, detectorNumbers, detectorBytes, detectorIn, keeping}
 use Rattle.filmdesk.specs.Claims.{Sized, FoundAgain, AlwaysSized, BusySays, PredictSays, MeasuredSays, PushSays}
-use Rattle.filmdesk.proofs.General.{listed-whole, digits-below}
-use Rattle.filmdesk.proofs.Kept.{found-ring, count-of-numbers}
+use Rattle.filmdesk.proofs.General.{digits-below}
+use Rattle.filmdesk.proofs.Kept.{found-ring}
 
 -- ---- numbers given back
 pub busy-says : BusySays
@@ -70,47 +70,58 @@ last-small (chosen.Field parity.Bottom) = lit< tt
 
 -- ---- a detector that was written is found again
 
--- the numbers behind the ring
-abbrev others : Detector → List ℕ
-others d =
-    d .lock .next ∷ d .lock .held ∷ d .lock .taken ∷ d .lock .phase ∷ d .lock .since ∷ d .lock .stills ∷ numberIf (d .kept .held) ∷ d .kept .width
-    ∷ d .kept .height ∷ firstRowOf (d .kept .first) ∷ chosenNumber (d .last) ∷ []
-
 module _ (d : Detector) (bytes : List ℕ) (s : Sized d) where
-  inside : (k : ℕ) → k < 26 → k < length (detectorNumbers d)
-  inside k l = rw (count-of-numbers d (s .ring)) l
+  -- what stands behind the numbers in the state
+  abbrev behind : List ℕ
+  behind = d .lock .ring ++ (d .lock .phase ∷ [])
 
-  other-at : (n : ℕ) → n < 11 → getD (others d) n 0 < 2 ^ 64 → numberAt (keeping d bytes) (15 + n) ≡ getD (others d) n 0
-  other-at n l small =
-      let place : getD (detectorNumbers d) (15 + n) 0 ≡ getD (others d) n 0 =
-      ap (λ (k : ℕ). getD (detectorNumbers d) (k + n) 0) (sym (s .ring)) ∙ getD-append-add (d .lock .ring) (others d) n 0 in
-      reads-back (detectorNumbers d) bytes (15 + n) (inside (15 + n) (omega arith)) (rw place small) ∙ place
+  abbrev rest : List ℕ
+  rest = drop (length (detectorBytes d)) bytes
 
-  symbol-at : (i : ℕ) → i < 15 → numberAt (keeping d bytes) i % 256 ≡ getD (d .lock .ring) i 0
-  symbol-at i l =
-      let place : getD (detectorNumbers d) i 0 ≡ getD (d .lock .ring) i 0 = List·getD-append (d .lock .ring) (others d) 0 i (rw (s .ring) l) in
-      let small : getD (d .lock .ring) i 0 < 2 ^ 64 = lt-trans (s .symbols i l) (lit< tt) in
-      ap (λ (n : ℕ). n % 256) (reads-back (detectorNumbers d) bytes i (inside i (omega arith)) (rw place small) ∙ place) ∙ mod-eq-of-lt (s .symbols i l)
+  state-is : keeping d bytes ≡ packedOf (detectorNumbers d) ++ (behind ++ rest)
+  state-is = append-assoc (packedOf (detectorNumbers d)) behind rest
+
+  number-back : (k : ℕ) → k < 10 → getD (detectorNumbers d) k 0 < 2 ^ 64 → numberAt (keeping d bytes) k ≡ getD (detectorNumbers d) k 0
+  number-back k l small =
+      ap (λ (b : List ℕ). numberAt b k) (state-is ∙ ap (λ (b : List ℕ). packedOf (detectorNumbers d) ++ b) (sym (drop-append-seam (packedOf (detectorNumbers d)) (behind ++ rest))))
+      ∙ reads-back (detectorNumbers d) (packedOf (detectorNumbers d) ++ (behind ++ rest)) k l small
+
+  behind-at : (i : ℕ) → i < 16 → getD (keeping d bytes) (80 + i) 0 ≡ getD behind i 0
+  behind-at i l =
+      let long : length (packedOf (detectorNumbers d)) ≡ 80 = packed-size (detectorNumbers d) in
+      ap (λ (b : List ℕ). getD b (80 + i) 0) state-is
+      ∙ ap (λ (n : ℕ). getD (packedOf (detectorNumbers d) ++ (behind ++ rest)) (n + i) 0) (sym long)
+      ∙ getD-append-add (packedOf (detectorNumbers d)) (behind ++ rest) i 0
+      ∙ List·getD-append behind rest 0 i (omega (arith, l, length-append (d .lock .ring) (d .lock .phase ∷ []), s .ring))
+
+  symbol-at : (i : ℕ) → i < 15 → getD (keeping d bytes) (80 + i) 0 ≡ getD (d .lock .ring) i 0
+  symbol-at i l = behind-at i (omega arith) ∙ List·getD-append (d .lock .ring) (d .lock .phase ∷ []) 0 i (rw (s .ring) l)
+
+  phase-at : getD (keeping d bytes) 95 0 ≡ d .lock .phase
+  phase-at =
+      behind-at 15 (lit< tt)
+      ∙ ap (λ (n : ℕ). getD behind n 0) (sym (s .ring))
+      ∙ getD-append-seam (d .lock .ring) (d .lock .phase) [] 0
 
   found : detectorIn (keeping d bytes) ≡ d
   unfolding detectorIn
   found = λ i. record {
     lock = record {
-      ring = (same-listed 15 _ _ symbol-at ∙ listed-whole 0 15 (d .lock .ring) (s .ring)) i;
-      next = other-at 0 (lit< tt) (s .next) i;
-      held = other-at 1 (lit< tt) (s .held) i;
-      taken = other-at 2 (lit< tt) (s .taken) i;
-      phase = (ap (λ (n : ℕ). n % 256) (other-at 3 (lit< tt) (lt-trans (s .phase) (lit< tt))) ∙ mod-eq-of-lt (s .phase)) i;
-      since = other-at 4 (lit< tt) (s .since) i;
-      stills = other-at 5 (lit< tt) (s .stills) i;
+      ring = (same-listed 15 _ _ symbol-at ∙ listed-again (d .lock .ring) 15 0 (sym (s .ring))) i;
+      next = number-back 0 (lit< tt) (s .next) i;
+      held = number-back 1 (lit< tt) (s .held) i;
+      taken = number-back 2 (lit< tt) (s .taken) i;
+      phase = phase-at i;
+      since = number-back 3 (lit< tt) (s .since) i;
+      stills = number-back 4 (lit< tt) (s .stills) i;
     };
     kept = record {
-      held = (ap (λ (n : ℕ). not (eqb n 0)) (other-at 6 (lit< tt) (held-small (d .kept .held))) ∙ held-back (d .kept .held)) i;
-      width = (ap (λ (n : ℕ). n % 65536) (other-at 7 (lit< tt) (lt-trans (s .width) (lit< tt))) ∙ mod-eq-of-lt (s .width)) i;
-      height = (ap (λ (n : ℕ). n % 65536) (other-at 8 (lit< tt) (lt-trans (s .height) (lit< tt))) ∙ mod-eq-of-lt (s .height)) i;
-      first = (ap parityNamed (other-at 9 (lit< tt) (first-small (d .kept .first))) ∙ first-back (d .kept .first)) i;
+      held = (ap (λ (n : ℕ). not (eqb n 0)) (number-back 5 (lit< tt) (held-small (d .kept .held))) ∙ held-back (d .kept .held)) i;
+      width = (ap (λ (n : ℕ). n % 65536) (number-back 6 (lit< tt) (lt-trans (s .width) (lit< tt))) ∙ mod-eq-of-lt (s .width)) i;
+      height = (ap (λ (n : ℕ). n % 65536) (number-back 7 (lit< tt) (lt-trans (s .height) (lit< tt))) ∙ mod-eq-of-lt (s .height)) i;
+      first = (ap parityNamed (number-back 8 (lit< tt) (first-small (d .kept .first))) ∙ first-back (d .kept .first)) i;
     };
-    last = (ap chosenNamed (other-at 10 (lit< tt) (last-small (d .last))) ∙ last-back (d .last)) i;
+    last = (ap chosenNamed (number-back 9 (lit< tt) (last-small (d .last))) ∙ last-back (d .last)) i;
   }
 
 pub found-again : FoundAgain
@@ -125,13 +136,13 @@ pub always-sized : AlwaysSized
 unfolding detectorIn
 always-sized bytes small = record {
   ring = found-ring bytes;
-  symbols = λ i l. subst (λ (n : ℕ). n < 256) (sym (listed-at 15 _ i 0 l)) (mod-lt (numberAt bytes i) (lit< tt));
-  next = number-small bytes small 15;
-  held = number-small bytes small 16;
-  taken = number-small bytes small 17;
-  phase = mod-lt (numberAt bytes 18) (lit< tt);
-  since = number-small bytes small 19;
-  stills = number-small bytes small 20;
-  width = mod-lt (numberAt bytes 22) (lit< tt);
-  height = mod-lt (numberAt bytes 23) (lit< tt);
+  symbols = λ i l. subst (λ (n : ℕ). n < 256) (sym (listed-at 15 _ i 0 l)) (small (80 + i));
+  next = number-small bytes small 0;
+  held = number-small bytes small 1;
+  taken = number-small bytes small 2;
+  phase = small 95;
+  since = number-small bytes small 3;
+  stills = number-small bytes small 4;
+  width = mod-lt (numberAt bytes 6) (lit< tt);
+  height = mod-lt (numberAt bytes 7) (lit< tt);
 }

@@ -1,9 +1,10 @@
--- A detector kept in lent bytes between calls: 26 numbers of eight bytes. Every list of bytes is some detector, so that no call has to trust
--- what it is lent. Assumes nothing.
+-- A detector kept in lent bytes between calls: ten numbers of eight bytes, the ring's fifteen bytes, and the phase. Every list of bytes is some
+-- detector, so that no call has to trust what it is lent. Assumes nothing.
 use Prim.Native.Nat.{ℕ, _+_, _%_}
 use mathlib.Core.Bool.{Bool, true, false, cond, not}
 use mathlib.Core.List.{List, [], _∷_, _++_}
 use lib.Dec.{eqb}
+use lib.ListN.{getD}
 use Rattle.laws.specs.Rows.{listed, over}
 use Rattle.field.specs.declared.Chosen.{Chosen}
 use Rattle.field.specs.declared.Chosen.the-variants as chosen
@@ -13,7 +14,7 @@ use Rattle.telecine.specs.declared.Detector.{Detector}
 
 -- the bytes that a state needs
 abbrev pub stateBytes : ℕ
-stateBytes = 208
+stateBytes = 96
 
 abbrev pub numberIf : Bool → ℕ
 numberIf true = 1
@@ -27,34 +28,36 @@ chosenNumber (chosen.Field parity) = firstRowOf parity + 1
 abbrev pub chosenNamed : ℕ → Chosen
 chosenNamed n = cond (eqb n 0) chosen.Neither (chosen.Field (cond (eqb n 1) (parityNamed 0) (parityNamed 1)))
 
--- the ring's 15 numbers, the rest of the lock, the kept frame's shape, the last parity
+-- the numbers of a detector: of the lock, of the kept frame's shape, of the last parity
 abbrev pub detectorNumbers : Detector → List ℕ
 detectorNumbers d =
-    d .lock .ring
-    ++ (d .lock .next ∷ d .lock .held ∷ d .lock .taken ∷ d .lock .phase ∷ d .lock .since ∷ d .lock .stills ∷ numberIf (d .kept .held) ∷ d .kept .width
-    ∷ d .kept .height ∷ firstRowOf (d .kept .first) ∷ chosenNumber (d .last) ∷ [])
+    d .lock .next ∷ d .lock .held ∷ d .lock .taken ∷ d .lock .since ∷ d .lock .stills ∷ numberIf (d .kept .held) ∷ d .kept .width ∷ d .kept .height
+    ∷ firstRowOf (d .kept .first) ∷ chosenNumber (d .last) ∷ []
+
+abbrev pub detectorBytes : Detector → List ℕ
+detectorBytes d = packedOf (detectorNumbers d) ++ (d .lock .ring ++ (d .lock .phase ∷ []))
 
 -- The detector that bytes hold. A number too large for its place is cut to the place's size.
 unfoldable pub detectorIn : List ℕ → Detector
 detectorIn bytes = record {
   lock = record {
-    ring = listed 15 (λ i. numberAt bytes i % 256);
-    next = numberAt bytes 15;
-    held = numberAt bytes 16;
-    taken = numberAt bytes 17;
-    phase = numberAt bytes 18 % 256;
-    since = numberAt bytes 19;
-    stills = numberAt bytes 20;
+    ring = listed 15 (λ i. getD bytes (80 + i) 0);
+    next = numberAt bytes 0;
+    held = numberAt bytes 1;
+    taken = numberAt bytes 2;
+    phase = getD bytes 95 0;
+    since = numberAt bytes 3;
+    stills = numberAt bytes 4;
   };
   kept = record {
-    held = not (eqb (numberAt bytes 21) 0);
-    width = numberAt bytes 22 % 65536;
-    height = numberAt bytes 23 % 65536;
-    first = parityNamed (numberAt bytes 24);
+    held = not (eqb (numberAt bytes 5) 0);
+    width = numberAt bytes 6 % 65536;
+    height = numberAt bytes 7 % 65536;
+    first = parityNamed (numberAt bytes 8);
   };
-  last = chosenNamed (numberAt bytes 25);
+  last = chosenNamed (numberAt bytes 9);
 }
 
 -- bytes with a detector written at their front
 abbrev pub keeping : Detector → List ℕ → List ℕ
-keeping d bytes = over (packedOf (detectorNumbers d)) bytes
+keeping d bytes = over (detectorBytes d) bytes

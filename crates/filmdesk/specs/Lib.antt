@@ -1,4 +1,5 @@
 -- The definitions that the exported functions' contracts cite, and the claims. Assumes nothing.
 pub mod Kept
+pub mod Inner
 pub mod Film
 pub mod Claims

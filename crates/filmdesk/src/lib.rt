@@ -1,7 +1,7 @@
 // What the capture desk's Rust host calls of the detector and of block counts, beside crate `desk` and
 // in its manner: numbers and byte slices, the answer a number of document 01, "What the desk gets
 // back", a value to a lent place, which a refusal leaves as it was. Between calls the host keeps the
-// detector in 208 bytes that it lends. Assumes nothing.
+// detector in 96 bytes that it lends. Assumes nothing.
 use block::Counted;
 use block::Counts;
 use desk::planes;
@@ -10,27 +10,31 @@ use field::Chosen;
 use field::Parity;
 use plane::refusal;
 use pulldown::Answer;
+use pulldown::Course;
 use pulldown::Lock;
 use telecine::Detector;
 use telecine::Kept;
 use telecine::Measured;
 ghost use mathlib.Core.Path.{_≡_};
 ghost use Prim.Native.Nat.{_%_, _≤_};
-ghost use mathlib.Core.List.{_++_};
+ghost use mathlib.Core.List.{[], _∷_, _++_};
 ghost use lib.ListN.{length, replicate};
-ghost use Rattle.laws.specs.Refusal.{written};
-ghost use Rattle.laws.specs.Rows.{listed, over};
+ghost use Rattle.laws.specs.Refusal.{whenDone, written};
+ghost use Rattle.laws.specs.Rows.{over};
 ghost use Rattle.field.specs.Field.{firstRowOf, parityNamed, cadenceNumber};
 ghost use Rattle.block.specs.Answer.{countsOf};
-ghost use Rattle.pulldown.specs.Lock.{lockedOf, predictCadence};
-ghost use Rattle.packed.specs.Packed.{numberAt};
-ghost use Rattle.telecine.specs.Detector.{freshDetector, resetOf, measuredDetector, measuredCadence, pushDetector, pushCadence, pushStore};
+ghost use Rattle.pulldown.specs.Lock.{answerNo, answerValues, lockWith, lockedOf, predictCadence};
+ghost use Rattle.telecine.specs.Detector.{nothingKept, freshDetector, resetOf, measuredNo, measuredDetector, measuredCadence, pushDetector, pushCadence, pushStore};
 ghost use Rattle.entry.specs.Entry.{cadencesNo, cadencesOf};
 ghost use Rattle.desk.specs.Planes.{shapeNamed};
 ghost use Rattle.filmdesk.specs.Kept.{numberIf, detectorIn, detectorNumbers, keeping, chosenNumber, chosenNamed};
+ghost use Rattle.filmdesk.specs.Inner.{courseOf, detectorWith};
 ghost use Rattle.filmdesk.specs.Film.{busyNo, newNo, stateNo, predictStateNo, measuredNamed, measuredStateNo, pushStateNo};
 
-const STATE_BYTES: usize = 208;
+const STATE_BYTES: usize = 96;
+
+// Where the ring stands in it, behind the numbers; the phase is the last byte.
+const RING: usize = 80;
 
 // ---- a detector in the state's bytes
 
@@ -58,12 +62,6 @@ fn chosen_in(number: u64) -> Chosen
     }
 }
 
-fn byte_in(number: u64) -> u8
-    ensures { λ r. ⌜ r ≡ number % 256 ⌝ }
-{
-    (number % 256) as u8
-}
-
 fn size_in(number: u64) -> u16
     ensures { λ r. ⌜ r ≡ number % 65536 ⌝ }
 {
@@ -71,41 +69,43 @@ fn size_in(number: u64) -> u16
 }
 
 fn ring_in(state: &[u8]) -> [u8; 15]
-    ensures { λ r. ⌜ r ≡ listed 15 (λ i. numberAt (now (state .entry)) i % 256) ⌝ }
+    requires { ⌜ 96 ≤ length (now state) ⌝ }
+    ensures { λ r. ⌜ r ≡ detectorIn (now (state .entry)) .lock .ring ⌝ }
 {
     let mut ring = [0u8; 15];
-    let mut i: u16 = 0;
+    let mut i = 0;
     while i < 15 {
-        let at = i as usize;
-        ring[at] = byte_in(packed::number_at(state, i));
+        ring[i] = state[RING + i];
         i += 1;
     }
     ring
 }
 
-fn lock_in(state: &[u8]) -> Lock
-    ensures { λ r. ⌜ r ≡ detectorIn (now (state .entry)) .lock ⌝ }
+// Of a part whose length is known, no number has to be tested for where the bytes end.
+fn course_in(state: &[u8]) -> Course
+    requires { ⌜ 96 ≤ length (now state) ⌝ }
+    ensures { λ r. ⌜ r ≡ courseOf (detectorIn (now (state .entry)) .lock) ⌝ }
 {
-    let ring = ring_in(state);
-    let phase = byte_in(packed::number_at(state, 18));
-    Lock {
-        ring: ring,
-        next: packed::number_at(state, 15) as usize,
-        held: packed::number_at(state, 16) as usize,
-        taken: packed::number_at(state, 17),
-        phase: phase,
-        since: packed::number_at(state, 19),
-        stills: packed::number_at(state, 20) as usize,
+    let bytes = &state[0..STATE_BYTES];
+    Course {
+        next: packed::number_at(bytes, 0) as usize,
+        held: packed::number_at(bytes, 1) as usize,
+        taken: packed::number_at(bytes, 2),
+        phase: state[STATE_BYTES - 1],
+        since: packed::number_at(bytes, 3),
+        stills: packed::number_at(bytes, 4) as usize,
     }
 }
 
 fn kept_in(state: &[u8]) -> Kept
+    requires { ⌜ 96 ≤ length (now state) ⌝ }
     ensures { λ r. ⌜ r ≡ detectorIn (now (state .entry)) .kept ⌝ }
 {
-    let held = packed::number_at(state, 21) != 0;
-    let width = size_in(packed::number_at(state, 22));
-    let height = size_in(packed::number_at(state, 23));
-    let first = parity_in(packed::number_at(state, 24));
+    let bytes = &state[0..STATE_BYTES];
+    let held = packed::number_at(bytes, 5) != 0;
+    let width = size_in(packed::number_at(bytes, 6));
+    let height = size_in(packed::number_at(bytes, 7));
+    let first = parity_in(packed::number_at(bytes, 8));
     Kept {
         held: held,
         width: width,
@@ -114,15 +114,35 @@ fn kept_in(state: &[u8]) -> Kept
     }
 }
 
-// Of a part whose length is known, no number has to be tested for where the bytes end.
-fn detector_in(state: &[u8]) -> Detector
-    requires { ⌜ 208 ≤ length (now state) ⌝ }
-    ensures { λ r. ⌜ r ≡ detectorIn (now (state .entry)) ⌝ }
+fn last_in(state: &[u8]) -> Chosen
+    requires { ⌜ 96 ≤ length (now state) ⌝ }
+    ensures { λ r. ⌜ r ≡ detectorIn (now (state .entry)) .last ⌝ }
 {
     let bytes = &state[0..STATE_BYTES];
-    let lock = lock_in(bytes);
-    let kept = kept_in(bytes);
-    let last = chosen_in(packed::number_at(bytes, 25));
+    chosen_in(packed::number_at(bytes, 9))
+}
+
+fn lock_with(ring: [u8; 15], course: Course) -> Lock
+    ensures { λ r. ⌜ r ≡ lockWith ring course ⌝ }
+{
+    Lock {
+        ring: ring,
+        next: course.next,
+        held: course.held,
+        taken: course.taken,
+        phase: course.phase,
+        since: course.since,
+        stills: course.stills,
+    }
+}
+
+fn detector_in(state: &[u8]) -> Detector
+    requires { ⌜ 96 ≤ length (now state) ⌝ }
+    ensures { λ r. ⌜ r ≡ detectorIn (now (state .entry)) ⌝ }
+{
+    let lock = lock_with(ring_in(state), course_in(state));
+    let kept = kept_in(state);
+    let last = last_in(state);
     Detector {
         lock: lock,
         kept: kept,
@@ -130,39 +150,28 @@ fn detector_in(state: &[u8]) -> Detector
     }
 }
 
-// As much of it as `locked`, `predict` and `reset` look at. The rest is not read, and made up.
+// As much of it as `locked`, `predict` and `reset` look at. The rest is made up.
 fn outline_in(state: &[u8]) -> Detector
-    requires { ⌜ 208 ≤ length (now state) ⌝ }
-    ensures { λ r. ⌜ (r .lock .taken ≡ detectorIn (now (state .entry)) .lock .taken) × (r .lock .phase ≡ detectorIn (now (state .entry)) .lock .phase) × (r .lock .since ≡ detectorIn (now (state .entry)) .lock .since) × (r .last ≡ detectorIn (now (state .entry)) .last) ⌝ }
+    requires { ⌜ 96 ≤ length (now state) ⌝ }
+    ensures { λ r. ⌜ r ≡ detectorWith (replicate 15 0) (courseOf (detectorIn (now (state .entry)) .lock)) nothingKept (detectorIn (now (state .entry)) .last) ⌝ }
 {
-    let bytes = &state[0..STATE_BYTES];
-    let taken = packed::number_at(bytes, 17);
-    let phase = byte_in(packed::number_at(bytes, 18));
-    let since = packed::number_at(bytes, 19);
-    let last = chosen_in(packed::number_at(bytes, 25));
+    let lock = lock_with([0u8; 15], course_in(state));
+    let led = last_in(state);
     Detector {
-        lock: Lock {
-            ring: [0u8; 15],
-            next: 0,
-            held: 0,
-            taken: taken,
-            phase: phase,
-            since: since,
-            stills: 0,
-        },
+        lock: lock,
         kept: Kept {
             held: false,
             width: 0,
             height: 0,
             first: Parity::Top,
         },
-        last: last,
+        last: led,
     }
 }
 
 // The detector after a reset.
 fn reset_in(state: &[u8]) -> Detector
-    requires { ⌜ 208 ≤ length (now state) ⌝ }
+    requires { ⌜ 96 ≤ length (now state) ⌝ }
     ensures { λ r. ⌜ r ≡ resetOf (detectorIn (now (state .entry))) ⌝ }
 {
     let detector = outline_in(state);
@@ -184,57 +193,87 @@ fn chosen_number(chosen: Chosen) -> u64
     }
 }
 
-fn wide(byte: u8) -> u64
-    ensures { λ r. ⌜ r ≡ byte ⌝ }
+fn numbers_of(course: Course, kept: Kept, last: Chosen) -> [u64; 10]
+    ensures { λ r. ⌜ r ≡ detectorNumbers (detectorWith [] course kept last) ⌝ }
 {
-    byte as u64
+    let led = kept.first;
+    [
+        course.next as u64,
+        course.held as u64,
+        course.taken,
+        course.since,
+        course.stills as u64,
+        one_if(kept.held) as u64,
+        kept.width as u64,
+        kept.height as u64,
+        led.first_row() as u64,
+        chosen_number(last),
+    ]
 }
 
-// The ring's numbers, and room for the 11 others.
-fn ring_numbers(ring: [u8; 15]) -> [u64; 26]
-    requires { ⌜ length ring ≡ 15 ⌝ }
-    ensures { λ r. ⌜ r ≡ ring ++ replicate 11 0 ⌝ }
+// The ring, and the phase behind it, into a place of just their bytes.
+fn write_ring(to: &mut [u8], ring: &[u8; 15], phase: u8)
+    requires { ⌜ (length (now to) ≡ 16) × (length (now ring) ≡ 15) ⌝ }
+    ensures { λ _. ⌜ now (to .exit) ≡ now (ring .entry) ++ (phase ∷ []) ⌝ }
 {
-    let mut numbers = [0u64; 26];
     let mut i = 0;
     while i < 15 {
-        numbers[i] = wide(ring[i]);
+        to[i] = ring[i];
         i += 1;
     }
-    numbers
+    to[15] = phase;
 }
 
-fn numbers_of(detector: Detector) -> [u64; 26]
-    requires { ⌜ length (detector .lock .ring) ≡ 15 ⌝ }
-    ensures { λ r. ⌜ r ≡ detectorNumbers detector ⌝ }
+// Writes a detector to a state that is long enough.
+fn keep_apart(state: &mut [u8], ring: &[u8; 15], course: Course, kept: Kept, last: Chosen)
+    requires { ⌜ (96 ≤ length (now state)) × (length (now ring) ≡ 15) ⌝ }
+    ensures { λ _. ⌜ now (state .exit) ≡ keeping (detectorWith (now (ring .entry)) course kept last) (now (state .entry)) ⌝ }
+{
+    let numbers = numbers_of(course, kept, last);
+    packed::write_numbers(&mut state[0..RING], &numbers);
+    write_ring(&mut state[RING..STATE_BYTES], ring, course.phase);
+}
+
+fn keep(state: &mut [u8], detector: Detector)
+    requires { ⌜ (96 ≤ length (now state)) × (length (detector .lock .ring) ≡ 15) ⌝ }
+    ensures { λ _. ⌜ now (state .exit) ≡ keeping detector (now (state .entry)) ⌝ }
 {
     let lock = detector.lock;
     let ring = lock.ring;
     let kept = detector.kept;
-    let led = kept.first;
     let last = detector.last;
-    let mut numbers = ring_numbers(ring);
-    numbers[15] = lock.next as u64;
-    numbers[16] = lock.held as u64;
-    numbers[17] = lock.taken;
-    numbers[18] = lock.phase as u64;
-    numbers[19] = lock.since;
-    numbers[20] = lock.stills as u64;
-    numbers[21] = wide(one_if(kept.held));
-    numbers[22] = kept.width as u64;
-    numbers[23] = kept.height as u64;
-    numbers[24] = led.first_row() as u64;
-    numbers[25] = chosen_number(last);
-    numbers
+    let course = Course {
+        next: lock.next,
+        held: lock.held,
+        taken: lock.taken,
+        phase: lock.phase,
+        since: lock.since,
+        stills: lock.stills,
+    };
+    keep_apart(state, &ring, course, kept, last);
 }
 
-// Writes a detector to a state that is long enough.
-fn keep(state: &mut [u8], detector: Detector)
-    requires { ⌜ (208 ≤ length (now state)) × (length (detector .lock .ring) ≡ 15) ⌝ }
-    ensures { λ _. ⌜ now (state .exit) ≡ keeping detector (now (state .entry)) ⌝ }
+// Takes counts: the detector is read from the state, and written back where it is not full.
+fn push_counts(state: &mut [u8], first: Parity, measured: Measured) -> Answer
+    requires { ⌜ 96 ≤ length (now state) ⌝ }
+    ensures { λ r. ⌜ (answerNo r ≡ measuredNo (detectorIn (now (state .entry)))) × (answerValues r ≡ whenDone (measuredNo (detectorIn (now (state .entry)))) (measuredCadence (detectorIn (now (state .entry))) first measured)) ⌝ }
+    ensures { λ r. ⌜ now (state .exit) ≡ written (answerNo r) (keeping (measuredDetector (detectorIn (now (state .entry))) first measured) (now (state .entry))) (now (state .entry)) ⌝ }
 {
-    let numbers = numbers_of(detector);
-    packed::write_numbers(state, &numbers);
+    let mut ring = ring_in(state);
+    let course = course_in(state);
+    let kept = kept_in(state);
+    let last = last_in(state);
+    let seen = telecine::seen_measured(last, first, measured);
+    let stepped = pulldown::push_apart(&mut ring, course, seen);
+    let after = stepped.course;
+    let answer = stepped.answer;
+    match answer {
+        Answer::Gave(found) => {
+            keep_apart(state, &ring, after, kept, Chosen::Field(first));
+            Answer::Gave(found)
+        }
+        Answer::Refused(no) => Answer::Refused(no),
+    }
 }
 
 // Counts as the host gives them: `present` 0 is none.
@@ -384,14 +423,9 @@ pub extern "C" fn desk_detector_push_measured(
     if state.len() < STATE_BYTES {
         return refusal::SHORT_INPUT;
     }
-    let detector = detector_in(state);
     let measured = measured_named(present, busy, total, other_busy, other_total);
-    let pushed = detector.push_measured(Parity::named(parity as u32), measured);
-    let next = pushed.detector;
-    let answer = pushed.answer;
-    match answer {
+    match push_counts(state, Parity::named(parity as u32), measured) {
         Answer::Gave(found) => {
-            keep(state, next);
             *cadence = found.number();
             0
         }

@@ -148,7 +148,7 @@ pub push-refused : (l : Lock) (s : Seen) → 4000000000 ≤ l .taken → pushLoc
 unfolding lowest
 push-refused l s h = rw (le-ltb (l .taken) 4000000000 h)
 
-one-taken : (l : Lock) (s : Seen) → advanceOf l s .taken ≡ l .taken + 1
+pub one-taken : (l : Lock) (s : Seen) → advanceOf l s .taken ≡ l .taken + 1
 unfolding advanceOf
 one-taken l seen.NotComparable = refl
 one-taken l (seen.Symbol s) = refl

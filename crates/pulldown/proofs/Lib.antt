@@ -7,5 +7,6 @@ pub mod Few
 pub mod Follow
 pub mod Holds
 pub mod Claims
+pub mod Step
 pub mod Codes
 pub mod Cards

@@ -1,15 +1,16 @@
 -- What inner functions promise. Only their contracts cite it. Assumes nothing.
 use Prim.Native.Nat.{ℕ}
+use mathlib.Core.Bool.{cond}
 use mathlib.Core.List.{List}
-use Rattle.pulldown.specs.declared.Lock.{Lock}
+use lib.Dec.{ltb}
 use Rattle.pulldown.specs.declared.Course.{Course}
+use Rattle.pulldown.specs.Lock.{window, lockedBy}
 
--- the lock of a ring and a course, when n frames were taken; of the frame at which its phase was locked it knows nothing
-abbrev pub lockBy : List ℕ → Course → ℕ → Lock
-lockBy ring c n =
-    record { ring = ring; next = c .next; held = c .held; taken = n; phase = c .phase; since = 0; stills = c .stills }
+abbrev pub withPhase : Course → ℕ → Course
+withPhase c p = record { next = c .next; held = c .held; taken = c .taken; phase = p; since = c .since; stills = c .stills }
 
--- a lock that has forgotten at which frame its phase was locked
-abbrev pub forgetful : Lock → Lock
-forgetful l =
-    record { ring = l .ring; next = l .next; held = l .held; taken = l .taken; phase = l .phase; since = 0; stills = l .stills }
+-- The phase after a frame that the course before it took into this ring: the one that the frame leaves, and where it leaves none the one that
+-- the window locks.
+abbrev pub phaseIn : List ℕ → Course → Course → ℕ
+phaseIn ring before after =
+    cond (ltb (after .phase) 5) (after .phase) (lockedBy (window ring (before .next) (before .taken) (after .held)) (before .taken))

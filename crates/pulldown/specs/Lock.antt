@@ -14,6 +14,7 @@ use Rattle.pulldown.specs.declared.Symbol.the-variants.{Still, Moved, Re
 use Rattle.pulldown.specs.declared.Seen.{Seen}
 use Rattle.pulldown.specs.declared.Seen.the-variants as seen
 use Rattle.pulldown.specs.declared.Lock.{Lock}
+use Rattle.pulldown.specs.declared.Course.{Course}
 use Rattle.pulldown.specs.declared.Answer.{Answer}
 use Rattle.pulldown.specs.declared.Answer.the-variants as answer
 use Rattle.pulldown.specs.Symbols.{symbolNumber, sameSymbol}
@@ -111,6 +112,11 @@ freshLock = record { ring = replicate 15 0; next = 0; held = 0; taken = 0; phase
 
 abbrev pub lockedOf : Lock → Bool
 lockedOf l = ltb (l .phase) 5
+
+-- a lock by its ring and the rest of it
+abbrev pub lockWith : List ℕ → Course → Lock
+lockWith ring c =
+    record { ring = ring; next = c .next; held = c .held; taken = c .taken; phase = c .phase; since = c .since; stills = c .stills }
 
 -- 9: a push comes when 4,000,000,000 frames have been taken since fresh or reset
 abbrev pub pushNo : Lock → ℕ

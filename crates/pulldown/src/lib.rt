@@ -1,7 +1,7 @@
 // Copyright 2026 Till0196
 // SPDX-License-Identifier: Apache-2.0
 // Carried over from core/src/output/video/telecine.rs, and changed: `advance` is `Lock::push`, by value,
-// on what was seen of a frame; the window is a ring of 15 numbers; no phase is phase 5;
+// and `push_apart`, on what was seen of a frame; the window is a ring of 15 numbers; no phase is phase 5;
 // `classify_counts` takes the three counts that it reads; frames and looks ahead are bounded.
 //
 // The 2:3 pulldown in a sequence of frames, by what was seen of each: the symbol that block counts give,
@@ -10,15 +10,16 @@
 use plane::refusal;
 ghost use mathlib.Core.Path.{_≡_};
 ghost use mathlib.Core.Bool.{cond};
-ghost use Prim.Native.Nat.{_+_, _-_, _%_, _<_, _≤_, min, max};
+ghost use Prim.Native.Nat.{ℕ, _+_, _-_, _%_, _<_, _≤_, min, max};
+ghost use mathlib.Core.List.{List};
 ghost use lib.Dec.{ltb};
 ghost use lib.ListN.{length};
 ghost use Rattle.laws.specs.Refusal.{whenDone, written};
 ghost use Rattle.pulldown.specs.Symbols.{symbolOf, symbolNumber, sameSymbol, oneIf};
 ghost use Rattle.pulldown.specs.Runs.{frameOf, stepOf, stillOrExpected, agrees, contradicts, cadenceBy, foretold};
-ghost use Rattle.pulldown.specs.Lock.{answerNo, answerValues, symbolAt, window, candidateOf, lockedBy, stillsAfter, withSymbol, withoutSymbol, advanceOf, freshLock, lockedOf, pushNo, pushCadence, pushLock, predictNo, predictCadence};
+ghost use Rattle.pulldown.specs.Lock.{answerNo, answerValues, symbolAt, window, candidateOf, lockedBy, stillsAfter, withSymbol, withoutSymbol, advanceOf, freshLock, lockedOf, lockWith, pushNo, pushCadence, pushLock, predictNo, predictCadence};
 ghost use Rattle.pulldown.specs.Codes.{codeOf, seenBy, cadencesOf, codesNo};
-ghost use Rattle.pulldown.specs.Inner.{lockBy, forgetful};
+ghost use Rattle.pulldown.specs.Inner.{withPhase, phaseIn};
 
 // A field moved where this part of its blocks is busy, or more, and never with fewer than so many.
 const MOVING_PART: u64 = 128;
@@ -105,6 +106,16 @@ pub struct Lock {
     pub stills: usize,
 }
 
+// A lock without its ring.
+pub struct Course {
+    pub next: usize,
+    pub held: usize,
+    pub taken: u64,
+    pub phase: u8,
+    pub since: u64,
+    pub stills: usize,
+}
+
 pub enum Answer {
     Gave(field::Cadence),
     Refused(u8),
@@ -112,6 +123,11 @@ pub enum Answer {
 
 pub struct Pushed {
     pub lock: Lock,
+    pub answer: Answer,
+}
+
+pub struct Stepped {
+    pub course: Course,
     pub answer: Answer,
 }
 
@@ -264,6 +280,19 @@ fn locked_by(ring: &[u8; 15], place: usize, n: u64, held: usize) -> u8
     NO_PHASE
 }
 
+// The same as `locked_by`, and sooner where the frames are too few for the repeats and moves that a
+// phase asks.
+fn locked_among(ring: &[u8; 15], place: usize, n: u64, held: usize) -> u8
+    requires { ⌜ (place < 15) × (held ≤ 15) ⌝ }
+    ensures { λ r. ⌜ r ≡ lockedBy (window (now (ring .entry)) place n held) n ⌝ }
+{
+    if held < LEAST_HELD {
+        NO_PHASE
+    } else {
+        locked_by(ring, place, n, held)
+    }
+}
+
 fn contradicts(phase: u8, n: u64, symbol: Symbol) -> bool
     ensures { λ r. ⌜ r ≡ contradicts phase (frameOf n symbol) ⌝ }
 {
@@ -317,19 +346,6 @@ fn phase_left(stills: usize, phase: u8) -> u8
     if stills < MOST_STILL { phase } else { NO_PHASE }
 }
 
-fn phase_after(ring: &[u8; 15], place: usize, n: u64, held: usize, phase: u8, broken: bool) -> u8
-    requires { ⌜ (place < 15) × (held ≤ 15) ⌝ }
-    ensures { λ r. ⌜ r ≡ cond broken 5 (cond (ltb phase 5) phase (lockedBy (window (now (ring .entry)) place n held) n)) ⌝ }
-{
-    if broken {
-        return NO_PHASE;
-    }
-    if phase < NO_PHASE {
-        return phase;
-    }
-    locked_by(ring, place, n, held)
-}
-
 // A symbol that contradicts leaves nothing in the window, not even itself.
 fn held_after(broken: bool, held: usize) -> usize
     ensures { λ r. ⌜ r ≡ cond broken 0 held ⌝ }
@@ -337,11 +353,133 @@ fn held_after(broken: bool, held: usize) -> usize
     if broken { 0 } else { held }
 }
 
+fn phase_unless(broken: bool, phase: u8) -> u8
+    ensures { λ r. ⌜ r ≡ cond broken 5 phase ⌝ }
+{
+    if broken { NO_PHASE } else { phase }
+}
+
+fn place_after(place: usize) -> usize
+    requires { ⌜ place < 15 ⌝ }
+    ensures { λ r. ⌜ (r ≡ (place + 1) % 15) × (r < 15) ⌝ }
+{
+    if place < WINDOW - 1 { place + 1 } else { 0 }
+}
+
 // Where no phase was held, one can be locked at frame n at the earliest.
 fn since_after(holding: bool, since: u64, n: u64) -> u64
     ensures { λ r. ⌜ r ≡ cond holding since n ⌝ }
 {
     if holding { since } else { n }
+}
+
+// Takes a frame that can be compared, the ring in place, all but the search: where this leaves no phase,
+// `locked_among` looks for one. Without the search it is short enough to be compiled into a caller's loop.
+fn enter(ring: &mut [u8; 15], course: Course, symbol: Symbol) -> Course
+    requires { ⌜ (course .next < 15) × (course .taken < 4000000000) ⌝ }
+    ensures { λ r. ⌜ (lockWith (now (ring .exit)) (withPhase r (phaseIn (now (ring .exit)) course r)) ≡ withSymbol (lockWith (now (ring .entry)) course) symbol) × (r .next < 15) × (r .held ≤ 15) ⌝ }
+{
+    let n = course.taken;
+    let place = course.next;
+    ring[place] = number_of(symbol);
+    let next = place_after(place);
+    let held = one_more(course.held, WINDOW);
+    let stills = stills_after(course.stills, symbol);
+    let left = phase_left(stills, course.phase);
+    let broken = contradicts(left, n, symbol);
+    let kept = held_after(broken, held);
+    Course {
+        next: next,
+        held: kept,
+        taken: n + 1,
+        phase: phase_unless(broken, left),
+        since: since_after(left < NO_PHASE, course.since, n),
+        stills: stills,
+    }
+}
+
+fn with_phase(course: Course, phase: u8) -> Course
+    ensures { λ r. ⌜ r ≡ withPhase course phase ⌝ }
+{
+    Course {
+        next: course.next,
+        held: course.held,
+        taken: course.taken,
+        phase: phase,
+        since: course.since,
+        stills: course.stills,
+    }
+}
+
+// A frame that cannot be compared contradicts nothing. It ends the run.
+fn end_run(course: Course) -> Course
+    requires { ⌜ course .taken < 4000000000 ⌝ }
+    ensures { λ r. ⌜ ((ring : List ℕ) → lockWith ring r ≡ withoutSymbol (lockWith ring course)) ⌝ }
+{
+    Course {
+        next: course.next,
+        held: 0,
+        taken: course.taken + 1,
+        phase: NO_PHASE,
+        since: course.since,
+        stills: 0,
+    }
+}
+
+// Brings the place into the ring. Every history leaves it there.
+fn in_ring(course: Course) -> Course
+    ensures { λ r. ⌜ (r .next < 15) × (r .taken ≡ course .taken) × ((ring : List ℕ) (s : Symbol) → withSymbol (lockWith ring r) s ≡ withSymbol (lockWith ring course) s) ⌝ }
+{
+    Course {
+        next: course.next % WINDOW,
+        held: course.held,
+        taken: course.taken,
+        phase: course.phase,
+        since: course.since,
+        stills: course.stills,
+    }
+}
+
+// Takes a frame that can be compared.
+fn take_symbol(ring: &mut [u8; 15], course: Course, symbol: Symbol) -> Course
+    requires { ⌜ (course .next < 15) × (course .taken < 4000000000) ⌝ }
+    ensures { λ r. ⌜ lockWith (now (ring .exit)) r ≡ withSymbol (lockWith (now (ring .entry)) course) symbol ⌝ }
+{
+    let after = enter(ring, course, symbol);
+    if after.phase < NO_PHASE {
+        return after;
+    }
+    let phase = locked_among(ring, course.next, course.taken, after.held);
+    with_phase(after, phase)
+}
+
+fn take_seen(ring: &mut [u8; 15], course: Course, seen: Seen) -> Course
+    requires { ⌜ course .taken < 4000000000 ⌝ }
+    ensures { λ r. ⌜ lockWith (now (ring .exit)) r ≡ advanceOf (lockWith (now (ring .entry)) course) seen ⌝ }
+{
+    match seen {
+        Seen::NotComparable => end_run(course),
+        Seen::Symbol(symbol) => take_symbol(ring, in_ring(course), symbol),
+    }
+}
+
+// Takes a frame as `Lock::push` does, where the ring lies apart from the rest: it is changed in place,
+// and a refusal changes nothing.
+pub fn push_apart(ring: &mut [u8; 15], course: Course, seen: Seen) -> Stepped
+    ensures { λ r. ⌜ (lockWith (now (ring .exit)) (r .course) ≡ pushLock (lockWith (now (ring .entry)) course) seen) × (answerNo (r .answer) ≡ pushNo (lockWith (now (ring .entry)) course)) × (answerValues (r .answer) ≡ whenDone (pushNo (lockWith (now (ring .entry)) course)) (pushCadence (lockWith (now (ring .entry)) course) seen)) ⌝ }
+{
+    if MOST_FRAMES <= course.taken {
+        return Stepped {
+            course: course,
+            answer: Answer::Refused(refusal::TOO_MANY_FRAMES),
+        };
+    }
+    let after = take_seen(ring, course, seen);
+    let cadence = cadence_by(after.phase, course.taken);
+    Stepped {
+        course: after,
+        answer: Answer::Gave(cadence),
+    }
 }
 
 impl Lock {
@@ -371,72 +509,34 @@ impl Lock {
         self.phase < NO_PHASE
     }
 
-    // A frame that cannot be compared contradicts nothing. It ends the run.
-    fn without_symbol(self) -> Lock
-        requires { ⌜ self .taken < 4000000000 ⌝ }
-        ensures { λ r. ⌜ r ≡ withoutSymbol self ⌝ }
-    {
-        let ring = self.ring;
-        Lock {
-            ring: ring,
-            next: self.next,
-            held: 0,
-            taken: self.taken + 1,
-            phase: NO_PHASE,
-            since: self.since,
-            stills: 0,
-        }
-    }
-
-    fn with_symbol(self, symbol: Symbol) -> Lock
-        requires { ⌜ self .taken < 4000000000 ⌝ }
-        ensures { λ r. ⌜ r ≡ withSymbol self symbol ⌝ }
-    {
-        let n = self.taken;
-        let place = self.next % WINDOW;
-        let mut ring = self.ring;
-        ring[place] = number_of(symbol);
-        let held = one_more(self.held, WINDOW);
-        let stills = stills_after(self.stills, symbol);
-        let left = phase_left(stills, self.phase);
-        let broken = contradicts(left, n, symbol);
-        let phase = phase_after(&ring, place, n, held, left, broken);
-        Lock {
-            ring: ring,
-            next: (place + 1) % WINDOW,
-            held: held_after(broken, held),
-            taken: n + 1,
-            phase: phase,
-            since: since_after(left < NO_PHASE, self.since, n),
-            stills: stills,
-        }
-    }
-
-    fn advance(self, seen: Seen) -> Lock
-        requires { ⌜ self .taken < 4000000000 ⌝ }
-        ensures { λ r. ⌜ r ≡ advanceOf self seen ⌝ }
-    {
-        match seen {
-            Seen::NotComparable => self.without_symbol(),
-            Seen::Symbol(symbol) => self.with_symbol(symbol),
-        }
-    }
-
     // Takes a frame. The cadence is that of the phase which the frame leaves.
     pub fn push(self, seen: Seen) -> Pushed
         ensures { λ r. ⌜ (r .lock ≡ pushLock self seen) × (answerNo (r .answer) ≡ pushNo self) × (answerValues (r .answer) ≡ whenDone (pushNo self) (pushCadence self seen)) ⌝ }
     {
-        if MOST_FRAMES <= self.taken {
-            return Pushed {
-                lock: self,
-                answer: Answer::Refused(refusal::TOO_MANY_FRAMES),
-            };
-        }
-        let lock = self.advance(seen);
-        let cadence = cadence_by(lock.phase, self.taken);
+        let mut ring = self.ring;
+        let course = Course {
+            next: self.next,
+            held: self.held,
+            taken: self.taken,
+            phase: self.phase,
+            since: self.since,
+            stills: self.stills,
+        };
+        let stepped = push_apart(&mut ring, course, seen);
+        let after = stepped.course;
+        let answer = stepped.answer;
+        let lock = Lock {
+            ring: ring,
+            next: after.next,
+            held: after.held,
+            taken: after.taken,
+            phase: after.phase,
+            since: after.since,
+            stills: after.stills,
+        };
         Pushed {
             lock: lock,
-            answer: Answer::Gave(cadence),
+            answer: answer,
         }
     }
 
@@ -464,77 +564,20 @@ pub fn code_of(seen: Seen) -> u8
     }
 }
 
-// What a lock holds beside its ring and the number of frames, by which cadences are told: the frame at
-// which the phase was locked is not among it.
-struct Course {
-    next: usize,
-    held: usize,
-    phase: u8,
-    stills: usize,
-}
-
-fn place_after(place: usize) -> usize
-    requires { ⌜ place < 15 ⌝ }
-    ensures { λ r. ⌜ (r ≡ (place + 1) % 15) × (r < 15) ⌝ }
-{
-    if place < WINDOW - 1 { place + 1 } else { 0 }
-}
-
-fn phase_unless(broken: bool, phase: u8) -> u8
-    ensures { λ r. ⌜ r ≡ cond broken 5 phase ⌝ }
-{
-    if broken { NO_PHASE } else { phase }
-}
-
-// The same as `locked_by`, and sooner where the frames are too few for the repeats and moves that a
-// phase asks.
-fn locked_among(ring: &[u8; 15], place: usize, n: u64, held: usize) -> u8
-    requires { ⌜ (place < 15) × (held ≤ 15) ⌝ }
-    ensures { λ r. ⌜ r ≡ lockedBy (window (now (ring .entry)) place n held) n ⌝ }
-{
-    if held < LEAST_HELD {
-        NO_PHASE
-    } else {
-        locked_by(ring, place, n, held)
-    }
-}
-
-// Takes frame n. The ring stays where it lies, and where a phase is held no other is looked for.
-fn take_code(ring: &mut [u8; 15], course: Course, n: u64, code: u8) -> Course
-    requires { ⌜ (course .next < 15) × (n < 4000000000) ⌝ }
-    ensures { λ r. ⌜ (lockBy (now (ring .exit)) r (n + 1) ≡ forgetful (advanceOf (lockBy (now (ring .entry)) course n) (seenBy code))) × (r .next < 15) ⌝ }
+// The step is not that of `take_symbol` by a call: with two callers that would stay outside the loop.
+fn take_code(ring: &mut [u8; 15], course: Course, code: u8) -> Course
+    requires { ⌜ (course .next < 15) × (course .taken < 4000000000) ⌝ }
+    ensures { λ r. ⌜ (lockWith (now (ring .exit)) r ≡ advanceOf (lockWith (now (ring .entry)) course) (seenBy code)) × (r .next < 15) ⌝ }
 {
     if 3 < code {
-        return Course {
-            next: course.next,
-            held: 0,
-            phase: NO_PHASE,
-            stills: 0,
-        };
+        return end_run(course);
     }
-    let symbol = symbol_of(code);
-    let place = course.next;
-    ring[place] = code;
-    let next = place_after(place);
-    let held = one_more(course.held, WINDOW);
-    let stills = stills_after(course.stills, symbol);
-    let left = phase_left(stills, course.phase);
-    if left < NO_PHASE {
-        let broken = contradicts(left, n, symbol);
-        let kept = held_after(broken, held);
-        return Course {
-            next: next,
-            held: kept,
-            phase: phase_unless(broken, left),
-            stills: stills,
-        };
+    let after = enter(ring, course, symbol_of(code));
+    if after.phase < NO_PHASE {
+        return after;
     }
-    Course {
-        next: next,
-        held: held,
-        phase: locked_among(ring, place, n, held),
-        stills: stills,
-    }
+    let phase = locked_among(ring, course.next, course.taken, after.held);
+    with_phase(after, phase)
 }
 
 // Frames by what was seen of each, as a code: 0 to 3 for a symbol, any other for a frame that cannot be
@@ -551,14 +594,16 @@ pub fn cadences_of(codes: &mut [u8]) -> u8
     let mut course = Course {
         next: 0,
         held: 0,
+        taken: 0,
         phase: NO_PHASE,
+        since: 0,
         stills: 0,
     };
     let mut k = 0;
     while k < codes.len() {
-        let taken = take_code(&mut ring, course, k as u64, codes[k]);
-        codes[k] = cadence_by(taken.phase, k as u64).number();
-        course = taken;
+        let after = take_code(&mut ring, course, codes[k]);
+        codes[k] = cadence_by(after.phase, course.taken).number();
+        course = after;
         k += 1;
     }
     0

@@ -125,9 +125,9 @@ fn film(frames: u64) -> Vec<Entry> {
     (0..frames).map(entry).collect()
 }
 
-/// The desk reads the entries from their bytes; the Rust has them as numbers
-/// already.
-pub fn cadences(entries: u64) -> Contest {
+/// The desk reads the entries from their bytes. The Rust has them as numbers
+/// already, or `reads` them from the bytes too.
+pub fn cadences(entries: u64, reads: bool) -> Contest {
     let input = format!("{entries} measured entries");
     let sides = move || {
         let film = film(entries);
@@ -136,18 +136,46 @@ pub fn cadences(entries: u64) -> Contest {
             entry.write(&mut bytes);
         }
         let mut out = vec![0; film.len()];
+        let read = bytes.clone();
         Sides {
             rattle: side(move || {
                 taken(desk::cadences(black_box(&bytes), &mut out));
                 black_box(&mut out);
             }),
-            rust: Some(side(move || {
-                black_box(cadences::by_rust(black_box(&film)));
-            })),
+            rust: Some(if reads {
+                side(move || {
+                    black_box(cadences_in(black_box(&read)));
+                })
+            } else {
+                side(move || {
+                    black_box(cadences::by_rust(black_box(&film)));
+                })
+            }),
             inlined: None,
         }
     };
-    Contest::new("cadences", input, (entries, "entry"), sides)
+    let beside = if reads {
+        "the Rust: reads them from the bytes too"
+    } else {
+        "the Rust: has them as numbers"
+    };
+    Contest::new("cadences", input, (entries, "entry"), sides).beside(beside)
+}
+
+/// The cadences of a reel's entries, read as they are pushed.
+fn cadences_in(bytes: &[u8]) -> Vec<u8> {
+    let mut detector = oracle::video::telecine::Detector::new();
+    let cadence = |entry: &[u8]| {
+        let number = |at: usize| usize::from(u16::from_le_bytes([entry[at], entry[at + 1]]));
+        let measured = (number(2) == 1).then(|| ((number(4), number(6)), (number(8), number(10))));
+        let first = if number(0) == 0 {
+            oracle::video::field::Parity::Top
+        } else {
+            oracle::video::field::Parity::Bottom
+        };
+        detector.push_measured(first, measured) as u8
+    };
+    bytes.chunks_exact(desk::ENTRY_BYTES).map(cadence).collect()
 }
 
 /// Counts of a frame as the Rust takes them.

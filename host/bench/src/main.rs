@@ -283,7 +283,8 @@ fn contests() -> Vec<Contest> {
         films::locked(1_000, 100_000),
         films::predict(1_000, 100_000),
         films::push_measured(100_000),
-        films::cadences(1_000_000),
+        films::cadences(1_000_000, false),
+        films::cadences(1_000_000, true),
         weaves::weave(FULL, 8),
         weaves::weave(FULL, 10),
         weaves::line_number(FULL, 100_000),
@@ -356,7 +357,7 @@ fn growth() -> Vec<Contest> {
     });
     counts(calls, "frames", &films::push_measured);
     let entries = [1_000, 10_000, 100_000, 1_000_000];
-    counts(entries, "entries", &films::cadences);
+    counts(entries, "entries", &|entries| films::cadences(entries, false));
     counts(calls, "calls", &weaves::weaver_new);
     counts(calls, "calls", &weaves::weaver_clear);
     all

@@ -3,7 +3,7 @@
 use crate::{Parity, PlaneNumbers, Refusal};
 
 /// Bytes in which a detector is kept between calls.
-pub const STATE_BYTES: usize = 208;
+pub const STATE_BYTES: usize = 96;
 
 /// Bytes of a measured entry.
 pub const ENTRY_BYTES: usize = 12;

@@ -1,10 +1,10 @@
 -- `filmdesk::desk_detector_locked` meets its contract. Assumes nothing.
-use Prim.Native.Nat.{ℕ}
 use mathlib.Core.Path.{refl, ap, _∙_}
 use lib.Dec.{ltb}
 use borrow.Author.Needs.{needs}
 use borrow.Author.Tests.{le-leb, lt-leb}
 use Rattle.laws.specs.Refusal.{lowest}
+use Rattle.telecine.specs.declared.Detector.{Detector}
 use Rattle.filmdesk.specs.Kept.{numberIf}
 use Rattle.filmdesk.proofs.desk_detector_locked.Statement.{statement}
 use Rattle.filmdesk.proofs.desk_detector_locked.Tie as tie
@@ -27,7 +27,7 @@ unfolding lowest
 returns-2 c =
     let found = c .before .before in
     simp (le-leb _ _ (found .before .if1 .left))
-    (refl, c .one-if .ensures ∙ ap numberIf (c .before .locked .ensures ∙ ap (λ (phase : ℕ). ltb phase 5) (found .outline-in .ensures .1)))
+    (refl, c .one-if .ensures ∙ ap numberIf (c .before .locked .ensures ∙ ap (λ (d : Detector). ltb (d .lock .phase) 5) (found .outline-in .ensures)))
 
 pub desk-detector-locked-spec : {M : Type 1} → statement M
 desk-detector-locked-spec =

@@ -1,5 +1,4 @@
 -- `filmdesk::desk_detector_predict` meets its contract. Assumes nothing.
-use Prim.Native.Nat.{_+_, min}
 use mathlib.Core.Path.{refl, ap, _∙_}
 use lib.ListN.{length}
 use denote.Ref.{now}
@@ -8,7 +7,6 @@ use borrow.Author.Tests.{le-leb, lt-leb}
 use Rattle.laws.specs.Refusal.{lowest, whenDone}
 use Rattle.laws.proofs.Refusal.{number-behind}
 use Rattle.field.specs.Field.{cadenceNumber}
-use Rattle.pulldown.specs.Runs.{foretold}
 use Rattle.pulldown.specs.Lock.{answerNo, answerValues, predictCadence}
 use Rattle.filmdesk.specs.Kept.{detectorIn}
 use Rattle.filmdesk.specs.Film.{predictStateNo}
@@ -46,7 +44,7 @@ answered k =
     let same = found .outline-in .ensures in
     record {
       number-is = k .predict .ensures .0 ∙ number;
-      values-are = k .predict .ensures .1 ∙ (λ i. whenDone (number i) (foretold (same .1 i) (same .2 i) (min (same .0 i) 4000000000 + a .ahead)));
+      values-are = k .predict .ensures .1 ∙ (λ i. whenDone (number i) (predictCadence (same i .lock) (a .ahead)));
     }
 
 returns-2 : tie.Need-returns-2

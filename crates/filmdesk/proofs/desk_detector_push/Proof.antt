@@ -10,6 +10,7 @@ use denote.Ref.{now}
 use borrow.Author.Needs.{needs}
 use Rattle.laws.specs.Refusal.{lowest, whenDone, written}
 use Rattle.laws.specs.Rows.{over}
+use Rattle.laws.proofs.Refusal as refusal
 use Rattle.field.specs.Field.{cadenceNumber, parityNamed}
 use Rattle.plane.specs.Plane.{goodShape, planeBytes}
 use Rattle.block.specs.Block.{keptFrame}
@@ -19,7 +20,7 @@ use Rattle.telecine.specs.Detector.{keptBytes, measuredTests, pushCadence, push
 use Rattle.desk.specs.Planes.{shapeNamed}
 use Rattle.filmdesk.specs.Kept.{detectorIn, keeping}
 use Rattle.filmdesk.specs.Film.{pushStateNo}
-use Rattle.filmdesk.proofs.General.{Answered, said, value, stays, refusal-stays}
+use Rattle.filmdesk.proofs.General.{Answered, said, value, stays}
 use Rattle.filmdesk.proofs.Kept.{found-ring, pushed-ring}
 use Rattle.filmdesk.proofs.Calls.{firstStep, first-step-refuses, first-step-passes, state-room}
 use Rattle.filmdesk.proofs.desk_detector_push.Statement.{statement}
@@ -44,7 +45,7 @@ returns c =
     let bytes = length (now (a .plane)) in
     let room = length (now (a .store)) in
     let named = leb (a .shape .layout) 3 && leb (a .parity) 1 in
-    let long = leb 208 (length (now (a .state))) in
+    let long = leb 96 (length (now (a .state))) in
     let step =
     judged .lowest-of .ensures ∙ ap (λ (good : Bool). firstStep named good long) (judged .before .good-shape .ensures ∙ ap goodShape shape)
     in (
@@ -52,8 +53,8 @@ returns c =
           ∙ first-step-refuses named (goodShape s) long (leb (planeBytes s) bytes) (leb (keptBytes (d .kept)) room) ((7, leb (s .height * s .width) room) ∷ measuredTests d)
           (λ zero. c .if1 .taken (step ∙ zero)),
       (
-        refusal-stays (judged .lowest-of .result) (c .if1 .taken) _ _,
-        (refusal-stays (judged .lowest-of .result) (c .if1 .taken) _ _, refusal-stays (judged .lowest-of .result) (c .if1 .taken) _ _),
+        refusal.stays _ _ (c .if1 .taken),
+        (refusal.stays _ _ (c .if1 .taken), refusal.stays _ _ (c .if1 .taken)),
       ),
     )
 
@@ -90,7 +91,7 @@ answered k =
     let bytes = length (now (a .plane)) in
     let room = length (now (a .store)) in
     let named = leb (a .shape .layout) 3 && leb (a .parity) 1 in
-    let long = leb 208 (length (now (a .state))) in
+    let long = leb 96 (length (now (a .state))) in
     let picture = shaped .shape-named .result in
     let before = found .detector-in .result in
     let step =

@@ -1,15 +1,15 @@
 -- `filmdesk::ring_in` meets its contract. The loop keeps `Filled` of the places passed. Assumes nothing.
-use Prim.Native.Nat.{ℕ, _-_, _%_}
-use mathlib.Core.Path.{ap, _∙_}
+use Prim.Native.Nat.{_+_, _-_}
+use mathlib.Core.Path.{refl}
 use native.Mathlib.Omega.{arith}
-use borrow.Author.Needs.{needs}
+use lib.ListN.{getD}
 use Rattle.laws.proofs.Lists.{Filled, fill-starts, fills, fill-ends}
-use Rattle.packed.specs.Packed.{numberAt}
+use Rattle.filmdesk.specs.Kept.{detectorIn}
 use Rattle.filmdesk.proofs.ring_in.Statement.{statement}
 use Rattle.filmdesk.proofs.ring_in.Tie as tie
 
 abbrev Inv-loop : tie.InvT-loop
-Inv-loop state ring₀ i₀ ring i = Filled (λ i. numberAt state i % 256) ring₀ ring i
+Inv-loop state ring₀ i₀ ring i = Filled (λ i. getD state (80 + i) 0) ring₀ ring i
 
 abbrev μ-loop : tie.MeasureT-loop
 μ-loop state ring₀ i₀ ring i = 15 - i
@@ -17,14 +17,11 @@ abbrev μ-loop : tie.MeasureT-loop
 loop-holds : tie.Need-loop-holds Inv-loop μ-loop
 loop-holds c = fill-starts
 
-cast-at : tie.Need-cast-at Inv-loop μ-loop
-cast-at c = search needs
+add-ring : tie.Need-add-ring Inv-loop μ-loop
+add-ring c = omega arith
 
-number-at-requires : tie.Need-number-at-requires Inv-loop μ-loop
-number-at-requires c κs = search needs
-
-byte-in-requires : tie.Need-byte-in-requires Inv-loop μ-loop
-byte-in-requires c κs = search needs
+shared-slice-read-ring : tie.Need-shared-slice-read-ring Inv-loop μ-loop
+shared-slice-read-ring c = omega (arith, c .before .before .before .pre)
 
 array-write-ring : tie.Need-array-write-ring Inv-loop μ-loop
 array-write-ring c = omega arith
@@ -36,11 +33,10 @@ loop-less : tie.Need-loop-less Inv-loop μ-loop
 loop-less c = omega arith
 
 loop-again : tie.Need-loop-again Inv-loop μ-loop
-loop-again c =
-    let turn = c .before .before in
-    fills (turn .before .loop .inv) (turn .loop-test .taken) (c .byte-in .ensures ∙ ap (λ (n : ℕ). n % 256) (c .before .number-at .ensures))
+loop-again c = fills (c .before .before .loop .inv) (omega arith) refl
 
 returns : tie.Need-returns Inv-loop μ-loop
+unfolding detectorIn
 returns c = fill-ends (c .before .loop .inv) (c .loop-test .left)
 
 pub ring-in-spec : {M : Type 1} → statement M
@@ -50,9 +46,8 @@ ring-in-spec =
     Inv-loop
     μ-loop
     loop-holds
-    cast-at
-    number-at-requires
-    byte-in-requires
+    add-ring
+    shared-slice-read-ring
     array-write-ring
     add-i
     loop-less

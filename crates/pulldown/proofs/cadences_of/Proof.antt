@@ -26,7 +26,7 @@ returns c = (simp (lt-leb _ _ (c .if1 .taken)), refl)
 
 loop-holds : tie.Need-loop-holds Inv-loop μ-loop
 unfolding seenBefore
-loop-holds c = (fill-starts, record { lock = refl; next = omega arith })
+loop-holds c = (fill-starts, record { lock = refl; count = refl; next = omega arith })
 
 slice-read-take-code : tie.Need-slice-read-take-code Inv-loop μ-loop
 slice-read-take-code c = search needs

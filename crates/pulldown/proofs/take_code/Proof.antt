@@ -1,111 +1,71 @@
 -- `pulldown::take_code` meets its contract. Assumes nothing.
 use Prim.Native.Nat.{_<_}
 use native.Mathlib.Omega.{arith}
+use mathlib.Core.Path.{ap, _∙_}
 use denote.Ref.{now}
-use borrow.Author.Tests.{le-ltb}
-use Rattle.pulldown.specs.Lock.{advanceOf}
-use Rattle.pulldown.proofs.Codes.{holding, searching}
+use borrow.Author.Tests.{lt-ltb, le-ltb}
 use borrow.Author.Needs.{needs}
+use Rattle.pulldown.specs.declared.Lock.{Lock}
+use Rattle.pulldown.specs.Lock.{advanceOf}
 use Rattle.pulldown.proofs.take_code.Statement.{statement}
 use Rattle.pulldown.proofs.take_code.Tie as tie
 
+end-run-requires : tie.Need-end-run-requires
+end-run-requires c κs = search needs
+
 returns : tie.Need-returns
 unfolding advanceOf
-returns c = (simp (le-ltb _ 4 (c .if1 .taken)), omega arith)
+returns c =
+    let start = c .before .before in
+    let ended = c .end-run .ensures (now (start .args .ring)) in
+    (simp (le-ltb _ 4 (c .before .if1 .taken), ended), omega (arith, start .pre .0, ap (λ (l : Lock). l .next) ended))
 
 symbol-of-requires : tie.Need-symbol-of-requires
 symbol-of-requires c κs = search needs
 
-element-write-ring : tie.Need-element-write-ring
-element-write-ring c = search needs
-
-place-after-requires : tie.Need-place-after-requires
-place-after-requires c κs = search needs
-
-one-more-requires : tie.Need-one-more-requires
-one-more-requires c κs = search needs
-
-stills-after-requires : tie.Need-stills-after-requires
-stills-after-requires c κs = search needs
-
-phase-left-requires : tie.Need-phase-left-requires
-phase-left-requires c κs = search needs
-
-contradicts-requires : tie.Need-contradicts-requires
-contradicts-requires c κs = search needs
-
-held-after-requires : tie.Need-held-after-requires
-held-after-requires c κs = search needs
-
-phase-unless-requires : tie.Need-phase-unless-requires
-phase-unless-requires c κs = search needs
+enter-requires : tie.Need-enter-requires
+enter-requires c κs = search needs
 
 returns-2 : tie.Need-returns-2
+unfolding advanceOf
 returns-2 c =
-    let kept = c .before in
-    let broken = kept .before in
-    let test = broken .before in
-    let left = test .before in
-    let stills = left .before in
-    let more = stills .before in
-    let place = more .before in
-    let symbol = place .before in
-    let start = symbol .before .before in
-    let a = start .args in
-    let low : a .code < 4 = omega (arith, symbol .before .if1 .left) in
-    let told = rw (left .phase-left .ensures, stills .stills-after .ensures, symbol .symbol-of .ensures) at (test .if2 .taken) in (
-      rw (
-        c .phase-unless .ensures,
-        kept .held-after .ensures,
-        broken .contradicts .ensures,
-        left .phase-left .ensures,
-        stills .stills-after .ensures,
-        more .one-more .ensures,
-        place .place-after .ensures .0,
-        symbol .symbol-of .ensures,
-      ) (holding (now (a .ring)) (a .course) (a .n) (a .code) low (start .pre .0) told),
-      place .place-after .ensures .1,
+    let enter = c .before .before in
+    let symbol = enter .before in
+    let code = symbol .before .before in
+    let low : code .before .args .code < 4 = omega (arith, code .if1 .left) in (
+      (rw (lt-ltb _ 5 (c .if2 .taken)) at (enter .enter .ensures .0)) ∙ simp (lt-ltb _ 4 low, symbol .symbol-of .ensures),
+      enter .enter .ensures .1,
     )
 
 locked-among-requires : tie.Need-locked-among-requires
 locked-among-requires c κs = search needs
 
+with-phase-requires : tie.Need-with-phase-requires
+with-phase-requires c κs = search needs
+
 returns-3 : tie.Need-returns-3
+unfolding advanceOf
 returns-3 c =
-    let test = c .before .before in
-    let left = test .before in
-    let stills = left .before in
-    let more = stills .before in
-    let place = more .before in
-    let symbol = place .before in
-    let start = symbol .before .before in
-    let a = start .args in
-    let low : a .code < 4 = omega (arith, symbol .before .if1 .left) in
-    let told = rw (left .phase-left .ensures, stills .stills-after .ensures, symbol .symbol-of .ensures) at (test .if2 .left) in (
-      rw (
-        c .locked-among .ensures,
-        stills .stills-after .ensures,
-        more .one-more .ensures,
-        place .place-after .ensures .0,
-        symbol .symbol-of .ensures,
-      ) (searching (now (a .ring)) (a .course) (a .n) (a .code) low (start .pre .0) told),
-      place .place-after .ensures .1,
+    let locked = c .before in
+    let test = locked .before .before in
+    let enter = test .before .before in
+    let symbol = enter .before in
+    let code = symbol .before .before in
+    let low : code .before .args .code < 4 = omega (arith, code .if1 .left) in (
+      rw (c .with-phase .ensures, locked .locked-among .ensures)
+          ((rw (le-ltb _ 5 (test .if2 .left)) at (enter .enter .ensures .0)) ∙ simp (lt-ltb _ 4 low, symbol .symbol-of .ensures)),
+      rw (c .with-phase .ensures) (enter .enter .ensures .1),
     )
 
 pub take-code-spec : {M : Type 1} → statement M
 take-code-spec =
     tie.close
     (tie.spec
+    end-run-requires
     returns
     symbol-of-requires
-    element-write-ring
-    place-after-requires
-    one-more-requires
-    stills-after-requires
-    phase-left-requires
-    contradicts-requires
-    held-after-requires
-    phase-unless-requires
+    enter-requires
     returns-2
     locked-among-requires
+    with-phase-requires
     returns-3)

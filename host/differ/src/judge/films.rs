@@ -36,7 +36,7 @@ pub fn cadences(entries: &[u8], out: usize) -> u8 {
 pub const MOST_FRAMES: u64 = 4_000_000_000;
 
 /// Bytes in which the host keeps a detector: crates/filmdesk/specs/Kept.antt.
-pub const STATE: usize = 208;
+pub const STATE: usize = 96;
 
 /// Of a fresh detector the state is a lent output.
 pub fn detector_new(state: usize) -> u8 {
@@ -118,21 +118,21 @@ mod tests {
         assert_eq!(of(2, 2, 1, 1), 6);
 
         let push = |parity, store, kept, taken| {
-            detector_push(208, parity, (SHAPE, 21), store, kept, taken)
+            detector_push(96, parity, (SHAPE, 21), store, kept, taken)
         };
         assert_eq!(push(1, 10, 10, MOST_FRAMES - 1), 0);
         assert_eq!(push(1, 10, 10, MOST_FRAMES), 9);
         assert_eq!((push(1, 9, 0, MOST_FRAMES), push(1, 9, 10, 0)), (7, 6));
         assert_eq!(push(2, 9, 10, 0), 3);
-        assert_eq!(detector_push(207, 0, (SHAPE, 21), 10, 0, 0), 6);
+        assert_eq!(detector_push(95, 0, (SHAPE, 21), 10, 0, 0), 6);
         let measured =
             |state, parity, present| detector_push_measured(state, parity, present, MOST_FRAMES);
-        assert_eq!((measured(208, 1, 1), measured(207, 1, 1)), (9, 6));
+        assert_eq!((measured(96, 1, 1), measured(95, 1, 1)), (9, 6));
         assert_eq!((measured(0, 2, 1), measured(0, 1, 2)), (3, 3));
-        assert_eq!((detector_new(208), detector_new(207)), (0, 7));
-        assert_eq!((detector_read(208), detector_read(207)), (0, 6));
+        assert_eq!((detector_new(96), detector_new(95)), (0, 7));
+        assert_eq!((detector_read(96), detector_read(95)), (0, 6));
         let predict = detector_predict;
-        assert_eq!((predict(208, 1_000_000), predict(208, 1_000_001)), (0, 10));
-        assert_eq!(predict(207, u64::MAX), 6);
+        assert_eq!((predict(96, 1_000_000), predict(96, 1_000_001)), (0, 10));
+        assert_eq!(predict(95, u64::MAX), 6);
     }
 }
