@@ -82,14 +82,6 @@ const BECOMES: [field::Cadence; 5] = [
     field::Cadence::Spanning,
 ];
 
-// The symbols by the numbers that stand for them in the ring.
-const NUMBERED: [Symbol; 4] = [
-    Symbol::Still,
-    Symbol::Moved,
-    Symbol::RepeatFirst,
-    Symbol::RepeatSecond,
-];
-
 pub struct Lock {
     // The last symbols as numbers, and the place that the next one takes.
     pub ring: [u8; 15],
@@ -189,8 +181,17 @@ fn number_of(symbol: Symbol) -> u8
 fn symbol_of(number: u8) -> Symbol
     ensures { λ r. ⌜ r ≡ symbolAt number ⌝ }
 {
-    let at = smaller(number as u64, 3) as usize;
-    NUMBERED[at]
+    if number == 0 {
+        return Symbol::Still;
+    }
+    if number == 1 {
+        return Symbol::Moved;
+    }
+    if number == 2 {
+        Symbol::RepeatFirst
+    } else {
+        Symbol::RepeatSecond
+    }
 }
 
 fn same(a: Symbol, b: Symbol) -> bool
@@ -564,7 +565,8 @@ pub fn code_of(seen: Seen) -> u8
     }
 }
 
-// The step is not that of `take_symbol` by a call: with two callers that would stay outside the loop.
+// Does as `take_symbol` does, and calls it not: with a second caller that would not be compiled into the
+// loop of `cadences_of`.
 fn take_code(ring: &mut [u8; 15], course: Course, code: u8) -> Course
     requires { ⌜ (course .next < 15) × (course .taken < 4000000000) ⌝ }
     ensures { λ r. ⌜ (lockWith (now (ring .exit)) r ≡ advanceOf (lockWith (now (ring .entry)) course) (seenBy code)) × (r .next < 15) ⌝ }

@@ -3,6 +3,8 @@ use mathlib.Core.Path.{refl}
 use Rattle.pulldown.proofs.Claims.{answer-settled}
 use Rattle.pulldown.proofs.classify_counts.Kinds as classify-counts-kinds
 use Rattle.pulldown.proofs.classify_counts.Reads as classify-counts
+use Rattle.pulldown.proofs.push_apart.Kinds as push-apart-kinds
+use Rattle.pulldown.proofs.push_apart.Reads as push-apart
 use Rattle.pulldown.proofs.Lock.new.Kinds as new-kinds
 use Rattle.pulldown.proofs.Lock.new.Reads as new
 use Rattle.pulldown.proofs.Lock.reset.Kinds as reset-kinds
@@ -22,6 +24,24 @@ use Rattle.unique.proofs.Law.{same, _and_, once}
 
 pub classify-counts-once : OneAnswer 0 classify-counts-kinds.ps classify-counts-kinds.r classify-counts.Post
 classify-counts-once κs a x y u v p q = (same p q, refl)
+
+pub push-apart-once : OneAnswer 1 push-apart-kinds.ps push-apart-kinds.r push-apart.Post
+push-apart-once =
+    once 1 push-apart-kinds.ps push-apart-kinds.r push-apart.Post
+    (λ κs a x y s t p q.
+    let lock = same (p .0) (q .0) in
+    λ i. record {
+      course = record {
+        next = lock i .next;
+        held = lock i .held;
+        taken = lock i .taken;
+        phase = lock i .phase;
+        since = lock i .since;
+        stills = lock i .stills;
+      };
+      answer = answer-settled (x .answer) (y .answer) (same (p .1) (q .1)) (same (p .2) (q .2)) i;
+    })
+    (λ κs a x u v p q. (λ i. same (p .0) (q .0) i .ring) and refl)
 
 pub new-once : OneAnswer 0 new-kinds.ps new-kinds.r new.Post
 new-once κs a x y u v p q = (same p q, refl)

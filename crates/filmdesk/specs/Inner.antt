@@ -1,0 +1,17 @@
+-- What inner functions promise. Only their contracts cite it. Assumes nothing.
+use Prim.Native.Nat.{ℕ}
+use mathlib.Core.List.{List}
+use Rattle.field.specs.declared.Chosen.{Chosen}
+use Rattle.pulldown.specs.declared.Lock.{Lock}
+use Rattle.pulldown.specs.declared.Course.{Course}
+use Rattle.pulldown.specs.Lock.{lockWith}
+use Rattle.telecine.specs.declared.Detector.{Detector}
+use Rattle.telecine.specs.declared.Kept.{Kept}
+
+-- a lock without its ring
+abbrev pub courseOf : Lock → Course
+courseOf l = record { next = l .next; held = l .held; taken = l .taken; phase = l .phase; since = l .since; stills = l .stills }
+
+-- a detector by its parts
+abbrev pub detectorWith : List ℕ → Course → Kept → Chosen → Detector
+detectorWith ring c kept last = record { lock = lockWith ring c; kept = kept; last = last }
