@@ -1,5 +1,4 @@
 -- Laws that the proofs of this crate share. Assumes nothing.
-pub mod Below
 pub mod Parts
 pub mod Floats
 pub mod Every

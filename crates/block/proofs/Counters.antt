@@ -14,7 +14,7 @@ use Rattle.plane.specs.declared.Shape.{Shape}
 use Rattle.block.specs.Block.{keptOf, storedOf, fieldOf, oneIf, differs, columnsIn, rowsIn, differing, busy, blocksAcross}
 use Rattle.block.specs.Rows.{KeptRow}
 use Rattle.block.specs.Counters.{differingIn, differingRow, bandRow, busyBy, Added}
-use Rattle.block.proofs.Rows.{part-length, part-at}
+use Rattle.laws.proofs.Lists.{part-length, part-at}
 
 -- ---- counter after counter
 pub added-none : {counters : List ℕ} {more : ℕ → ℕ} → Added counters counters more 0
@@ -59,7 +59,7 @@ part-differing new old width b {n} {p} {q} e h u v =
     (λ x l. ap₂ (λ (i j : ℕ). oneIf (differs i j)) (column new u x (rw e l)) (column old v x (rw e l)))
   where
     column : (row : List ℕ) {part : List ℕ} → part ≡ take n (drop (16 * b) row) → (x : ℕ) → x < n → getD part x 0 ≡ getD row (16 * b + x) 0
-    column row cut x l = ap (λ (part : List ℕ). getD part x 0) cut ∙ part-at row (16 * b) n x l
+    column row cut x l = ap (λ (part : List ℕ). getD part x 0) cut ∙ part-at row (16 * b) n x 0 l
 
 -- a row of a picture, with its kept samples in `new`, and the row of the kept frame
 pub row-added :
@@ -79,7 +79,7 @@ row-added bytes s store y new {before} {after} {old} kept part a = record {
 
     stored : (x : ℕ) → x < s .width → getD old x 0 ≡ getD store (y * s .width + x) 0
     stored x l =
-        ap (λ (row : List ℕ). getD row x 0) part ∙ part-at store (y * s .width) (s .width) x l
+        ap (λ (row : List ℕ). getD row x 0) part ∙ part-at store (y * s .width) (s .width) x 0 l
 
     sample :
         (x : ℕ) → x < s .width →

@@ -6,12 +6,12 @@ use mathlib.Core.List.{List}
 use native.Mathlib.Nat.{suc-mul, mul-le-mul-right, div-div-eq-div-mul}
 use native.Mathlib.Omega.{arith}
 use lib.Dec.{leb}
-use lib.ListN.{length, take, drop, getD, length-drop}
+use lib.ListN.{length, take, drop, getD}
 use lib.Pow.{pow-add}
-use lib.Seq.{length-take-le, getD-take, getD-drop}
+use lib.Seq.{length-take-le}
 use borrow.Author.Tests.{leb-true, le-leb, lt-leb}
 use Rattle.laws.specs.Rows.{listed}
-use Rattle.laws.proofs.Lists.{length-listed, same-listed, listed-at}
+use Rattle.laws.proofs.Lists.{length-listed, same-listed, listed-at, part-length, part-at}
 use Rattle.plane.specs.declared.Shape.{Shape}
 use Rattle.plane.specs.declared.Layout.{Layout}
 use Rattle.plane.specs.declared.Layout.the-variants.{Planar, Luma, First, Second}
@@ -31,14 +31,6 @@ row-within s bytes y long h =
 -- row y of a frame that is packed ends before row y + 1
 pub frame-within : (width height y : ℕ) → y < height → y * width + width ≤ height * width
 frame-within width height y h = rw suc-mul at (mul-le-mul-right {m = suc y} {n = height} width h)
-
--- how long a part is that ends within its list
-pub part-length : (bytes : List ℕ) (start n : ℕ) → start + n ≤ length bytes → length (take n (drop start bytes)) ≡ n
-part-length bytes start n h = length-take-le n (drop start bytes) (rw length-drop (omega arith))
-
--- what stands in a part
-pub part-at : (bytes : List ℕ) (start n x : ℕ) → x < n → getD (take n (drop start bytes)) x 0 ≡ getD bytes (start + x) 0
-part-at bytes start n x h = getD-take n (drop start bytes) x 0 h ∙ getD-drop start bytes x 0
 
 pub front-length : (bytes : List ℕ) (n : ℕ) → n ≤ length bytes → length (take (n - 0) (drop 0 bytes)) ≡ n
 front-length bytes n h =
@@ -94,7 +86,7 @@ module _ (s : Shape) (h : byteRows s ≡ true) where
     wide = ap length part ∙ part-length bytes (y * s .stride) (s .width) within;
     sample = λ x l.
         ap (λ (row : List ℕ). getD row x 0) part
-        ∙ part-at bytes (y * s .stride) (s .width) x l
+        ∙ part-at bytes (y * s .stride) (s .width) x 0 l
         ∙ sym (kept-byte bytes x y fits);
   }
 
@@ -143,5 +135,5 @@ module _ (s : Shape) (a : alone (s .layout) ≡ true) (h : byteRows s ≡ false)
       ∙ same-listed (s .width) _ _
       (λ x l.
       ap₂ (λ (low high : ℕ). (low + 256 * high) / 2 ^ down (s .layout) (s .depth) % 256)
-      (part-at bytes (y * s .stride) (s .width * 2) (x * 2) (omega arith)) (part-at bytes (y * s .stride) (s .width * 2) (x * 2 + 1) (omega arith))
+      (part-at bytes (y * s .stride) (s .width * 2) (x * 2) 0 (omega arith)) (part-at bytes (y * s .stride) (s .width * 2) (x * 2 + 1) 0 (omega arith))
       ∙ sym (kept-pair bytes x y))

@@ -4,9 +4,10 @@ use mathlib.Core.Path.{_≡_, refl, ap, ap₂, _∙_}
 use mathlib.Core.List.{List}
 use native.Mathlib.Nat.{add-mul, mul-le-mul-right}
 use native.Mathlib.Omega.{arith}
-use lib.ListN.{length, take, drop, length-drop}
-use lib.Seq.{getD-take, length-take-le}
+use lib.ListN.{length, take, drop}
+use lib.Seq.{getD-take}
 use Rattle.laws.specs.Sums.{sumOver, apart}
+use Rattle.laws.proofs.Lists.{part-length}
 use Rattle.laws.proofs.Sums.{same-terms}
 use Rattle.comb.specs.declared.Kind.{Kind}
 use Rattle.comb.specs.declared.Kind.the-variants.{Byte, Pair, Green}
@@ -31,9 +32,6 @@ two-below y height stride h =
     rw (row-after-next y stride refl) (mul-le-mul-right stride rows)
 
 -- ---- a row lent as a part of its plane
-part-length : (bytes : List ℕ) (start n : ℕ) → start + n ≤ length bytes → length (take n (drop start bytes)) ≡ n
-part-length bytes start n h = length-take-le n (drop start bytes) (rw length-drop (omega arith))
-
 -- in each of its columns it has the code that stands there without the cut
 part-code : (kind : Kind) (bytes : List ℕ) (width x : ℕ) → x < width → codeIn kind (take (width * sizeOf kind) bytes) x ≡ codeIn kind bytes x
 part-code Byte bytes width x h = getD-take (width * 1) bytes x 0 (omega arith)

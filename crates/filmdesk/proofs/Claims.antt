@@ -3,26 +3,31 @@ use Prim.Native.Nat.{ℕ, _+_, _*_, _%_, _<_, _^_}
 use mathlib.Core.Path.{_≡_, refl, sym, ap, subst, _∙_}
 use mathlib.Core.Bool.{Bool, true, false, not}
 use mathlib.Core.List.{List, [], _∷_, _++_, append-assoc}
-use native.Mathlib.Nat.{mod-lt, mod-eq-of-lt, lt-trans}
+use native.Mathlib.Nat.{mod-lt, mod-eq-of-lt, lt-trans, lt-of-le-of-lt}
 use native.Mathlib.Omega.{arith}
 use lib.Dec.{eqb, lit<}
 use lib.ListN.{length, getD, drop, List·getD-append, length-append}
 use lib.Seq.{getD-append-add, getD-append-seam, drop-append-seam}
 use Rattle.laws.specs.Refusal.{rising}
 use Rattle.laws.proofs.Claims.{lowest-says}
+use Rattle.laws.proofs.Refusal.{first-passes, rest-passes}
 use Rattle.laws.proofs.Lists.{listed-at, listed-again, same-listed}
 use Rattle.field.specs.declared.Chosen.{Chosen}
 use Rattle.field.specs.declared.Chosen.the-variants as chosen
 use Rattle.field.specs.declared.Parity.{Parity}
 use Rattle.field.specs.declared.Parity.the-variants as parity
 use Rattle.field.specs.Field.{firstRowOf, parityNamed}
+use Rattle.plane.specs.Plane.{goodShape}
+use Rattle.plane.proofs.Bounds.{good-within}
 use Rattle.packed.specs.Packed.{packedOf, numberAt}
 use Rattle.packed.proofs.Claims.{packed-size, reads-back}
 use Rattle.telecine.specs.declared.Detector.{Detector}
+use Rattle.telecine.specs.Detector.{seenMeasured, measuredNo, seenPicture, keptAs, pushNo}
 use Rattle.filmdesk.specs.Kept.{numberIf, chosenNumber, chosenNamed, detectorNumbers, detectorBytes, detectorIn, keeping}
-use Rattle.filmdesk.specs.Claims.{Sized, FoundAgain, AlwaysSized, BusySays, PredictSays, MeasuredSays, PushSays}
+use Rattle.filmdesk.specs.Claims.{Sized, FoundAgain, AlwaysSized, FreshSized, ResetSized, MeasuredSized, PushSized, BusySays, PredictSays, MeasuredSays, PushSays}
 use Rattle.filmdesk.proofs.General.{digits-below}
 use Rattle.filmdesk.proofs.Kept.{found-ring}
+use Rattle.filmdesk.proofs.Sized.{advanced-sized, fresh-with, written-sized, few-taken}
 
 -- ---- numbers given back
 pub busy-says : BusySays
@@ -146,3 +151,22 @@ always-sized bytes small = record {
   width = mod-lt (numberAt bytes 6) (lit< tt);
   height = mod-lt (numberAt bytes 7) (lit< tt);
 }
+
+-- ---- and so has what a call makes of such a detector
+pub fresh-sized : FreshSized
+fresh-sized = fresh-with chosen.Neither
+
+pub reset-sized : ResetSized
+reset-sized d = fresh-with (d .last)
+
+pub measured-sized : MeasuredSized
+measured-sized d first m z =
+    written-sized (measuredNo d) _ d z
+    (λ none. advanced-sized d (seenMeasured (d .last) first m) (d .kept) (chosen.Field first) z (few-taken d none) (z .width) (z .height))
+
+pub push-sized : PushSized
+push-sized d store plane s first z = written-sized (pushNo d s (length plane) (length store)) _ d z (λ none.
+    let within = good-within s (first-passes 4 (goodShape s) _ (lit< tt) none) in
+    let few = few-taken d (rest-passes 7 _ _ (lit< tt) (rest-passes 6 _ _ (lit< tt) (rest-passes 4 (goodShape s) _ (lit< tt) none))) in
+    advanced-sized d (seenPicture (d .kept) store plane s first) (keptAs s first) (chosen.Field first) z few
+    (lt-of-le-of-lt (within .width-most) (lit< tt)) (lt-of-le-of-lt (within .height-most) (lit< tt)))

@@ -67,7 +67,7 @@ pub found-ring : (bytes : List ℕ) → length (detectorIn bytes .lock .ring) �
 unfolding detectorIn
 found-ring bytes = length-listed 15 _
 
-advanced-ring : (l : Lock) (s : Seen) → length (l .ring) ≡ 15 → length (advanceOf l s .ring) ≡ 15
+pub advanced-ring : (l : Lock) (s : Seen) → length (l .ring) ≡ 15 → length (advanceOf l s .ring) ≡ 15
 unfolding advanceOf
 advanced-ring l seen.NotComparable e = e
 advanced-ring l (seen.Symbol s) e = length-set (l .ring) _ _ ∙ e

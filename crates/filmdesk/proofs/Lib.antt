@@ -2,4 +2,5 @@
 pub mod General
 pub mod Kept
 pub mod Calls
+pub mod Sized
 pub mod Claims

@@ -4,7 +4,11 @@ use mathlib.Core.Path.{_≡_}
 use mathlib.Core.List.{List}
 use lib.ListN.{length, getD}
 use Rattle.laws.specs.Refusal.{Says}
+use Rattle.field.specs.declared.Parity.{Parity}
+use Rattle.plane.specs.declared.Shape.{Shape}
 use Rattle.telecine.specs.declared.Detector.{Detector}
+use Rattle.telecine.specs.declared.Measured.{Measured}
+use Rattle.telecine.specs.Detector.{freshDetector, resetOf, measuredDetector, pushDetector}
 use Rattle.desk.specs.declared.planes.PlaneNumbers.{PlaneNumbers}
 use Rattle.filmdesk.specs.Kept.{detectorIn, keeping}
 use Rattle.filmdesk.specs.Film.{busyTests, predictStateTests, measuredStateTests, pushStateTests}
@@ -29,6 +33,19 @@ FoundAgain = (d : Detector) (bytes : List ℕ) → Sized d → detectorIn (keepi
 -- and what bytes hold is such a detector, whichever bytes they are
 abbrev pub AlwaysSized : Type 0
 AlwaysSized = (bytes : List ℕ) → ((i : ℕ) → getD bytes i 0 < 256) → Sized (detectorIn bytes)
+
+-- A fresh detector is one, and a call makes another of one: so what any call leaves in the state is found again.
+abbrev pub FreshSized : Type 0
+FreshSized = Sized freshDetector
+
+abbrev pub ResetSized : Type 0
+ResetSized = (d : Detector) → Sized (resetOf d)
+
+abbrev pub MeasuredSized : Type 0
+MeasuredSized = (d : Detector) (first : Parity) (m : Measured) → Sized d → Sized (measuredDetector d first m)
+
+abbrev pub PushSized : Type 0
+PushSized = (d : Detector) (store plane : List ℕ) (s : Shape) (first : Parity) → Sized d → Sized (pushDetector d store plane s first)
 
 -- The number is 0 exactly when no test fails, and n exactly when a test of n fails and none of a lower number does.
 abbrev pub BusySays : Type 0

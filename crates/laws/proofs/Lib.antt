@@ -3,4 +3,5 @@ pub mod Refusal
 pub mod Sums
 pub mod Lists
 pub mod Rows
+pub mod Below
 pub mod Claims

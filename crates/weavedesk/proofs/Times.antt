@@ -9,7 +9,8 @@ use lib.Signed.{ltZ, nonNeg}
 use borrow.Author.Tests.{lt-ltb, ltb-true}
 use mir.Syntax.{w64}
 use mir.Val.{SFits, Fits, toZ, ofZ}
-use mir.ValLaws.{toZ-ofZ, toZ-pos}
+use mir.ValLaws.{toZ-ofZ}
+use Rattle.laws.proofs.Below.{turned-small}
 use Rattle.weavedesk.specs.Waiting.{wholeKind, wholeSize}
 
 -- ---- by cases
@@ -51,22 +52,6 @@ negated (suc n) =
     let same : 0 + suc n ≡ suc n = omega arith in
     ap pos same
 
-turned : (n : ℕ) → pos 0 -ℤ pos n ≡ negℤ (pos n)
-turned zero = refl
-turned (suc n) =
-    let smaller : suc n - 1 ≡ n = omega arith in
-    simp (lt-ltb 0 (suc n) (omega arith)) (ap negsuc smaller)
-
-down : (n : ℕ) → negℤ (pos n) -ℤ pos 1 ≡ negsuc n
-down zero = refl
-down (suc n) =
-    let same : suc (n + 0) ≡ suc n = omega arith in
-    ap negsuc same
-
-turned-small : (n : ℕ) → n < 2 ^ 63 → SFits w64 (negℤ (pos n))
-turned-small zero h = record { sfits = h }
-turned-small (suc n) h = record { sfits = omega arith }
-
 -- ---- the size of a number below 0: at + 1, then 0 less that
 
 module _ (z : ℤ) (f : SFits w64 z) where
@@ -81,7 +66,7 @@ module _ (z : ℤ) (f : SFits w64 z) where
     raised = ap (λ (x : ℤ). x +ℤ pos 1) (read ∙ below z (test-read true h)) ∙ up (wholeSize z)
 
     pub raised-fits : SFits w64 (toZ w64 (ofZ w64 z) +ℤ pos 1)
-    raised-fits = subst (λ (x : ℤ). SFits w64 x) (sym raised) (turned-small (wholeSize z) (size-small z f))
+    raised-fits = subst (λ (x : ℤ). SFits w64 x) (sym raised) (turned-small w64 (wholeSize z) (size-small z f))
 
     size : pos 0 -ℤ toZ w64 (ofZ w64 (toZ w64 (ofZ w64 z) +ℤ pos 1)) ≡ pos (wholeSize z)
     size = ap (λ (x : ℤ). pos 0 -ℤ x) (toZ-ofZ w64 _ raised-fits ∙ raised) ∙ negated (wholeSize z)
@@ -99,24 +84,3 @@ module _ (z : ℤ) (f : SFits w64 z) where
 -- a number that is a size as it stands can be cast
 pub castable : (x : ℤ) (n : ℕ) → n < 2 ^ 63 → x ≡ pos n → T (nonNeg x) × Fits w64 (natAbs x)
 castable x n h e = subst (λ (y : ℤ). T (nonNeg y) × Fits w64 (natAbs y)) (sym e) (tt, record { fits = omega arith })
-
--- ---- back: 0 less a size, then 1 less
-
-module _ (n : ℕ) (h : n < 2 ^ 63) where
-  pub plain : toZ w64 n ≡ pos n
-  plain = toZ-pos w64 n h
-
-  minus : pos 0 -ℤ toZ w64 n ≡ negℤ (pos n)
-  minus = ap (λ (x : ℤ). pos 0 -ℤ x) plain ∙ turned n
-
-  pub minus-fits : SFits w64 (pos 0 -ℤ toZ w64 n)
-  minus-fits = subst (λ (x : ℤ). SFits w64 x) (sym minus) (turned-small n h)
-
-  less : toZ w64 (ofZ w64 (pos 0 -ℤ toZ w64 n)) -ℤ pos 1 ≡ negsuc n
-  less = ap (λ (x : ℤ). x -ℤ pos 1) (toZ-ofZ w64 _ minus-fits ∙ minus) ∙ down n
-
-  pub less-fits : SFits w64 (toZ w64 (ofZ w64 (pos 0 -ℤ toZ w64 n)) -ℤ pos 1)
-  less-fits = subst (λ (x : ℤ). SFits w64 x) (sym less) record { sfits = h }
-
-  pub less-read : toZ w64 (ofZ w64 (toZ w64 (ofZ w64 (pos 0 -ℤ toZ w64 n)) -ℤ pos 1)) ≡ negsuc n
-  less-read = toZ-ofZ w64 _ less-fits ∙ less

@@ -7,7 +7,7 @@ use lib.Dec.{lit<}
 use borrow.Author.Tests.{eq-eqb, ne-eqb}
 use mir.Syntax.{w64}
 use Rattle.answers.specs.Record.{signedOf}
-use Rattle.answers.proofs.Below.{plain, minus-fits, less-fits, less-read}
+use Rattle.laws.proofs.Below.{plain, minus-fits, less-fits, less-read}
 use Rattle.answers.proofs.long.Statement.{statement}
 use Rattle.answers.proofs.long.Tie as tie
 

@@ -7,7 +7,7 @@ use denote.Ref.{now}
 use borrow.Author.Needs.{needs}
 use Rattle.block.specs.Block.{blocksAcross}
 use Rattle.block.specs.Counters.{differingIn, Added}
-use Rattle.block.proofs.Rows.{part-length}
+use Rattle.laws.proofs.Lists.{part-length}
 use Rattle.block.proofs.Counters.{added-none, added-one, part-differing}
 use Rattle.block.proofs.add_row.Statement.{statement}
 use Rattle.block.proofs.add_row.Tie as tie

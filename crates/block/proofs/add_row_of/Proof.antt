@@ -6,7 +6,8 @@ use lib.ListN.{length}
 use denote.Ref.{now}
 use borrow.Author.Needs.{needs}
 use Rattle.block.specs.Rows.{RowReady, KeptRow}
-use Rattle.block.proofs.Rows.{frame-within, part-length, row-listed}
+use Rattle.laws.proofs.Lists.{part-length}
+use Rattle.block.proofs.Rows.{frame-within, row-listed}
 use Rattle.block.proofs.Counters.{row-added}
 use Rattle.block.proofs.add_row_of.Statement.{statement}
 use Rattle.block.proofs.add_row_of.Tie as tie

@@ -10,7 +10,8 @@ use borrow.Author.Tests.{leb-false}
 use Rattle.plane.proofs.Bounds.{good-within}
 use Rattle.plane.specs.Plane.{alone}
 use Rattle.block.specs.Rows.{byteRows}
-use Rattle.block.proofs.Rows.{row-within, part-length, row-copied, deep, pair-row-size, pairs-kept}
+use Rattle.laws.proofs.Lists.{part-length}
+use Rattle.block.proofs.Rows.{row-within, row-copied, deep, pair-row-size, pairs-kept}
 use Rattle.block.proofs.keep_row.Statement.{statement}
 use Rattle.block.proofs.keep_row.Tie as tie
 

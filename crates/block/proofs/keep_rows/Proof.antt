@@ -6,9 +6,9 @@ use lib.ListN.{length}
 use denote.Ref.{now}
 use borrow.Author.Needs.{needs}
 use Rattle.laws.specs.Rows.{listed}
-use Rattle.laws.proofs.Lists.{Stacked, length-listed, stack-starts, stacks, stack-ends}
+use Rattle.laws.proofs.Lists.{Stacked, length-listed, stack-starts, stacks, stack-ends, part-length}
 use Rattle.block.specs.Block.{keptOf, keptFrame}
-use Rattle.block.proofs.Rows.{frame-within, part-length}
+use Rattle.block.proofs.Rows.{frame-within}
 use Rattle.block.proofs.keep_rows.Statement.{statement}
 use Rattle.block.proofs.keep_rows.Tie as tie
 

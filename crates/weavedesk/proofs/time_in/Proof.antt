@@ -4,7 +4,8 @@ use native.Mathlib.Nat.{mod-lt}
 use lib.Dec.{lit<}
 use borrow.Author.Needs.{needs}
 use borrow.Author.Tests.{eq-eqb, ne-eqb}
-use Rattle.weavedesk.proofs.Times.{plain, minus-fits, less-fits, less-read}
+use mir.Syntax.{w64}
+use Rattle.laws.proofs.Below.{plain, minus-fits, less-fits, less-read}
 use Rattle.weavedesk.proofs.time_in.Statement.{statement}
 use Rattle.weavedesk.proofs.time_in.Tie as tie
 
@@ -19,16 +20,16 @@ cast-n : tie.Need-cast-n
 cast-n c = search needs
 
 sub-t7 : tie.Need-sub-t7
-sub-t7 c = minus-fits _ (cut (c .before .before .args .size))
+sub-t7 c = minus-fits w64 _ (cut (c .before .before .args .size))
 
 sub-t8 : tie.Need-sub-t8
-sub-t8 c = less-fits _ (cut (c .before .before .args .size))
+sub-t8 c = less-fits w64 _ (cut (c .before .before .args .size))
 
 returns-2 : tie.Need-returns-2
-returns-2 c = simp (ne-eqb _ _ (c .before .if1 .left), eq-eqb _ _ (c .if2 .taken), plain _ (cut (c .before .before .args .size)))
+returns-2 c = simp (ne-eqb _ _ (c .before .if1 .left), eq-eqb _ _ (c .if2 .taken), plain w64 _ (cut (c .before .before .args .size)))
 
 returns-3 : tie.Need-returns-3
-returns-3 c = simp (ne-eqb _ _ (c .before .if1 .left), ne-eqb _ _ (c .if2 .left), less-read _ (cut (c .before .before .args .size)))
+returns-3 c = simp (ne-eqb _ _ (c .before .if1 .left), ne-eqb _ _ (c .if2 .left), less-read w64 _ (cut (c .before .before .args .size)))
 
 pub time-in-spec : {M : Type 1} → statement M
 time-in-spec = tie.close (tie.spec returns cast-n sub-t7 sub-t8 returns-2 returns-3)

@@ -20,7 +20,7 @@ down (suc n) =
     let same : suc (n + 0) ≡ suc n = omega arith in
     ap negsuc same
 
-turned-small : (w : Width) (n : ℕ) → n < 2 ^ hbits w → SFits w (negℤ (pos n))
+pub turned-small : (w : Width) (n : ℕ) → n < 2 ^ hbits w → SFits w (negℤ (pos n))
 turned-small w zero h = record { sfits = h }
 turned-small w (suc n) h = record { sfits = omega arith }
 
