@@ -491,7 +491,7 @@ mod tests {
     /// as some detector, too.
     #[test]
     fn any_bytes_are_some_detector() {
-        const TAKEN: std::ops::Range<usize> = 17 * 8..18 * 8;
+        const TAKEN: std::ops::Range<usize> = 2 * 8..3 * 8;
         let plane = [100; 64 * 16];
         for fill in [0x01, 0x7F, 0xFF] {
             let mut state = [fill; STATE_BYTES];
@@ -523,7 +523,7 @@ mod tests {
 
     #[test]
     fn a_fresh_detector_needs_its_bytes() {
-        let mut state = [5; 207];
-        assert_eq!((detector_new(&mut state), state), (7, [5; 207]));
+        let mut state = [5; STATE_BYTES - 1];
+        assert_eq!((detector_new(&mut state), state), (7, [5; STATE_BYTES - 1]));
     }
 }

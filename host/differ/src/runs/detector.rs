@@ -100,8 +100,8 @@ const MORE_STATE: usize = 5;
 
 /// Numbers in the state, by crates/filmdesk/specs/Kept.antt: the frames taken,
 /// and the frame that locked.
-const TAKEN: usize = 17;
-const SINCE: usize = 19;
+const TAKEN: usize = 2;
+const SINCE: usize = 3;
 
 /// Both sides, and what the next call is expected to find.
 struct Sides {
