@@ -10,7 +10,6 @@ pub mod refusal;
 
 ghost use mathlib.Core.Path.{_≡_};
 ghost use Prim.Native.Nat.{_+_, _*_, _-_, _<_, _≤_, _^_, min, max};
-ghost use lib.Dec.{eqb};
 ghost use lib.IntN.{pos, natAbs};
 ghost use lib.ListN.{length, getD};
 ghost use lib.Ieee as Ieee;
@@ -330,22 +329,16 @@ fn read_no(coordinates: bool, s: Shape, bytes: usize) -> u8
     )
 }
 
-// Whether that number is 0: one test, so that a read does not wait for the number.
-fn may_read(coordinates: bool, s: Shape, bytes: usize) -> bool
-    ensures { λ r. ⌜ r ≡ eqb (lowest (readTests coordinates s bytes)) 0 ⌝ }
-{
-    coordinates & good_shape(s) & (plane_bytes(s) <= bytes)
-}
-
 // The code at a place inside the plane.
 pub fn code(plane: &[u8], s: Shape, x: i32, y: i32) -> Coded
     ensures { λ r. ⌜ (codedNo r ≡ codeNo s (length (now (plane .entry))) x y) × (codedValues r ≡ whenDone (codeNo s (length (now (plane .entry))) x y) (codeOf (now (plane .entry)) s (natAbs x) (natAbs y))) ⌝ }
 {
     let inner = is_inside(x, s.width) & is_inside(y, s.height);
-    if may_read(inner, s, plane.len()) {
+    let no = read_no(inner, s, plane.len());
+    if no == 0 {
         Coded::Value(code_inside(plane, s, x as u16, y as u16))
     } else {
-        Coded::Refused(read_no(inner, s, plane.len()))
+        Coded::Refused(no)
     }
 }
 
@@ -353,11 +346,11 @@ pub fn code(plane: &[u8], s: Shape, x: i32, y: i32) -> Coded
 pub fn at(plane: &[u8], s: Shape, x: i32, y: i32) -> Sampled
     ensures { λ r. ⌜ (sampledNo r ≡ atNo s (length (now (plane .entry))) x y) × (sampledValues r ≡ whenDone (atNo s (length (now (plane .entry))) x y) (valueOf (now (plane .entry)) s x y)) ⌝ }
 {
-    let reached = in_reach(x) & in_reach(y);
-    if may_read(reached, s, plane.len()) {
+    let no = read_no(in_reach(x) & in_reach(y), s, plane.len());
+    if no == 0 {
         Sampled::Value(value_at(plane, s, biased(x), biased(y)))
     } else {
-        Sampled::Refused(read_no(reached, s, plane.len()))
+        Sampled::Refused(no)
     }
 }
 

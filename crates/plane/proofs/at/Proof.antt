@@ -1,11 +1,10 @@
 -- `plane::at` meets its contract. Assumes nothing.
 use mathlib.Core.Path.{_≡_, refl, sym, ap, _∙_}
-use mathlib.Core.Bool.{true, _&&_}
+use mathlib.Core.Bool.{Bool, true, _&&_}
 use lib.Dec.{lit<}
 use lib.ListN.{length}
 use denote.Ref.{now}
 use mir.Facts.{toZ-ofZ}
-use borrow.Author.Tests.{eqb-true, eqb-false}
 use Rattle.laws.specs.Refusal.{lowest}
 use Rattle.laws.proofs.Refusal.{gives, refuses, first-passes}
 use Rattle.plane.specs.Plane.{valueOf}
@@ -16,41 +15,33 @@ use borrow.Author.Needs.{needs}
 use Rattle.plane.proofs.at.Statement.{statement}
 use Rattle.plane.proofs.at.Tie as tie
 
--- the call's own values
-abbrev entry : tie.After-may-read → tie.Start
-entry c = c .before .before .before .before
-
 -- the tests of both coordinates, and the call's number
-x-test : (c : tie.After-may-read) → c .before .before .in-reach .result ≡ inReach (entry c .args .x)
-x-test c = c .before .before .in-reach .ensures ∙ ap inReach (toZ-ofZ (entry c .fits .x))
+x-test : (c : tie.After-read-no) → c .before .before .in-reach .result ≡ inReach (c .before .before .before .before .args .x)
+x-test c = c .before .before .in-reach .ensures ∙ ap inReach (toZ-ofZ (c .before .before .before .before .fits .x))
 
-y-test : (c : tie.After-may-read) → c .before .in-reach2 .result ≡ inReach (entry c .args .y)
-y-test c = c .before .in-reach2 .ensures ∙ ap inReach (toZ-ofZ (entry c .fits .y))
+y-test : (c : tie.After-read-no) → c .before .in-reach2 .result ≡ inReach (c .before .before .before .before .args .y)
+y-test c = c .before .in-reach2 .ensures ∙ ap inReach (toZ-ofZ (c .before .before .before .before .fits .y))
 
 number :
-    (c : tie.After-may-read) →
-    let a = entry c .args in
-    lowest (readTests (c .before .before .in-reach .result && c .before .in-reach2 .result) (a .s) (length (now (a .plane))))
-    ≡ atNo (a .s) (length (now (a .plane))) (a .x) (a .y)
+    (c : tie.After-read-no) →
+    let a = c .before .before .before .before .args in
+    c .read-no .result ≡ atNo (a .s) (length (now (a .plane))) (a .x) (a .y)
 number c =
-    let a = entry c .args in
-    (λ i. lowest (readTests (x-test c i && y-test c i) (a .s) (length (now (a .plane)))))
+    let a = c .before .before .before .before .args in
+    c .read-no .ensures ∙ (λ i. lowest (readTests (x-test c i && y-test c i) (a .s) (length (now (a .plane)))))
 
--- a call that may read gets 0, has both coordinates within reach, and holds them
-done : (c : tie.Then1) → let a = entry (c .before) .args in atNo (a .s) (length (now (a .plane))) (a .x) (a .y) ≡ 0
-done c = sym (number (c .before)) ∙ eqb-true _ 0 (sym (c .before .may-read .ensures) ∙ c .if1 .taken)
+-- a call that gets 0 has both coordinates within reach, and holds them
+reach : (c : tie.Then1) → let a = c .before .before .before .before .before .args in (inReach (a .x) ≡ true) × (inReach (a .y) ≡ true)
+reach c = both-inside _ _ (first-passes 3 _ _ (lit< tt) (sym (number (c .before)) ∙ c .if1 .taken))
 
-reach : (c : tie.Then1) → let a = entry (c .before) .args in (inReach (a .x) ≡ true) × (inReach (a .y) ≡ true)
-reach c = both-inside _ _ (first-passes 3 _ _ (lit< tt) (done c))
-
-x-held : (c : tie.After-biased2) → unbiased (c .before .biased .result) ≡ entry (c .before .before .before) .args .x
+x-held : (c : tie.After-biased2) → unbiased (c .before .biased .result) ≡ c .before .before .before .before .before .before .before .args .x
 x-held c =
-    ap unbiased (c .before .biased .ensures ∙ ap biasOf (toZ-ofZ (entry (c .before .before .before) .fits .x)))
+    ap unbiased (c .before .biased .ensures ∙ ap biasOf (toZ-ofZ (c .before .before .before .before .before .before .before .fits .x)))
     ∙ unbiased-bias _ (reach (c .before .before) .0)
 
-y-held : (c : tie.After-biased2) → unbiased (c .biased2 .result) ≡ entry (c .before .before .before) .args .y
+y-held : (c : tie.After-biased2) → unbiased (c .biased2 .result) ≡ c .before .before .before .before .before .before .before .args .y
 y-held c =
-    ap unbiased (c .biased2 .ensures ∙ ap biasOf (toZ-ofZ (entry (c .before .before .before) .fits .y)))
+    ap unbiased (c .biased2 .ensures ∙ ap biasOf (toZ-ofZ (c .before .before .before .before .before .before .before .fits .y)))
     ∙ unbiased-bias _ (reach (c .before .before) .1)
 
 in-reach-requires : tie.Need-in-reach-requires
@@ -59,8 +50,8 @@ in-reach-requires c κs = search needs
 in-reach-requires-2 : tie.Need-in-reach-requires-2
 in-reach-requires-2 c κs = search needs
 
-may-read-requires : tie.Need-may-read-requires
-may-read-requires c κs = search needs
+read-no-requires : tie.Need-read-no-requires
+read-no-requires c κs = search needs
 
 biased-requires : tie.Need-biased-requires
 biased-requires c κs = search needs
@@ -71,20 +62,14 @@ biased-requires-2 c κs = search needs
 value-at-requires : tie.Need-value-at-requires
 value-at-requires c κs = search needs
 
-read-no-requires : tie.Need-read-no-requires
-read-no-requires c κs = search needs
-
 returns : tie.Need-returns
 returns c =
-    let a = entry (c .before .before .before .before) .args in
-    gives refl (done (c .before .before .before))
+    let a = c .before .before .before .before .before .before .before .before .args in
+    gives (number (c .before .before .before .before)) (c .before .before .before .if1 .taken)
     (c .value-at .ensures .0 ∙ (λ i. valueOf (now (a .plane)) (a .s) (x-held (c .before) i) (y-held (c .before) i)))
 
 returns-2 : tie.Need-returns-2
-returns-2 c =
-    let test = c .before .before in
-    refuses _ (c .read-no .ensures ∙ number test)
-    (λ e. eqb-false _ 0 (sym (test .may-read .ensures) ∙ c .before .if1 .left) (sym (c .read-no .ensures) ∙ e))
+returns-2 c = refuses _ (number (c .before)) (c .if1 .left)
 
 pub at-spec : {M : Type 1} → statement M
 at-spec =
@@ -92,10 +77,9 @@ at-spec =
     (tie.spec
     in-reach-requires
     in-reach-requires-2
-    may-read-requires
+    read-no-requires
     biased-requires
     biased-requires-2
     value-at-requires
-    read-no-requires
     returns
     returns-2)

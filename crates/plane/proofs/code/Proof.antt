@@ -12,7 +12,7 @@ use denote.Ref.{now}
 use mir.Syntax.{w16}
 use mir.Val.{Fits}
 use mir.Facts.{toZ-ofZ}
-use borrow.Author.Tests.{eqb-true, eqb-false, leb-true}
+use borrow.Author.Tests.{leb-true}
 use Rattle.laws.specs.Refusal.{lowest}
 use Rattle.laws.proofs.Refusal.{gives, refuses, first-passes, rest-passes}
 use Rattle.plane.specs.Plane.{codeOf}
@@ -24,18 +24,18 @@ use Rattle.plane.proofs.code.Statement.{statement}
 use Rattle.plane.proofs.code.Tie as tie
 
 -- the call's own values
-abbrev entry : tie.After-may-read → tie.Start
+abbrev entry : tie.After-read-no → tie.Start
 entry c = c .before .before .before .before
 
 -- the tests of both coordinates, and the call's number
-x-test : (c : tie.After-may-read) → c .before .before .is-inside .result ≡ inside (entry c .args .s .width) (entry c .args .x)
+x-test : (c : tie.After-read-no) → c .before .before .is-inside .result ≡ inside (entry c .args .s .width) (entry c .args .x)
 x-test c = c .before .before .is-inside .ensures ∙ ap (inside (entry c .args .s .width)) (toZ-ofZ (entry c .fits .x))
 
-y-test : (c : tie.After-may-read) → c .before .is-inside2 .result ≡ inside (entry c .args .s .height) (entry c .args .y)
+y-test : (c : tie.After-read-no) → c .before .is-inside2 .result ≡ inside (entry c .args .s .height) (entry c .args .y)
 y-test c = c .before .is-inside2 .ensures ∙ ap (inside (entry c .args .s .height)) (toZ-ofZ (entry c .fits .y))
 
 number :
-    (c : tie.After-may-read) →
+    (c : tie.After-read-no) →
     let a = entry c .args in
     lowest (readTests (c .before .before .is-inside .result && c .before .is-inside2 .result) (a .s) (length (now (a .plane))))
     ≡ codeNo (a .s) (length (now (a .plane))) (a .x) (a .y)
@@ -43,9 +43,9 @@ number c =
     let a = entry c .args in
     (λ i. lowest (readTests (x-test c i && y-test c i) (a .s) (length (now (a .plane)))))
 
--- a call that may read gets 0, and has both coordinates inside and all bytes
+-- a call that reads gets 0, and has both coordinates inside and all bytes
 done : (c : tie.Then1) → let a = entry (c .before) .args in codeNo (a .s) (length (now (a .plane))) (a .x) (a .y) ≡ 0
-done c = sym (number (c .before)) ∙ eqb-true _ 0 (sym (c .before .may-read .ensures) ∙ c .if1 .taken)
+done c = sym (number (c .before)) ∙ sym (c .before .read-no .ensures) ∙ c .if1 .taken
 
 inner :
     (c : tie.Then1) →
@@ -67,8 +67,8 @@ is-inside-requires c κs = search needs
 is-inside-requires-2 : tie.Need-is-inside-requires-2
 is-inside-requires-2 c κs = search needs
 
-may-read-requires : tie.Need-may-read-requires
-may-read-requires c κs = search needs
+read-no-requires : tie.Need-read-no-requires
+read-no-requires c κs = search needs
 
 cast-code-inside : tie.Need-cast-code-inside
 cast-code-inside c =
@@ -89,9 +89,6 @@ code-inside-requires c κs =
       leb-true _ _ (first-passes 6 _ _ (lit< tt) (rest-passes 4 _ _ (lit< tt) (rest-passes 3 _ _ (lit< tt) (done c)))),
     )
 
-read-no-requires : tie.Need-read-no-requires
-read-no-requires c κs = search needs
-
 returns : tie.Need-returns
 returns c =
     let start = entry (c .before .before) in
@@ -100,10 +97,7 @@ returns c =
     (c .code-inside .ensures ∙ (λ i. codeOf (now (a .plane)) (a .s) (natAbs (toZ-ofZ (start .fits .x) i)) (natAbs (toZ-ofZ (start .fits .y) i))))
 
 returns-2 : tie.Need-returns-2
-returns-2 c =
-    let test = c .before .before in
-    refuses _ (c .read-no .ensures ∙ number test)
-    (λ e. eqb-false _ 0 (sym (test .may-read .ensures) ∙ c .before .if1 .left) (sym (c .read-no .ensures) ∙ e))
+returns-2 c = refuses _ (c .before .read-no .ensures ∙ number (c .before)) (c .if1 .left)
 
 pub code-spec : {M : Type 1} → statement M
 code-spec =
@@ -111,10 +105,9 @@ code-spec =
     (tie.spec
     is-inside-requires
     is-inside-requires-2
-    may-read-requires
+    read-no-requires
     cast-code-inside
     cast-code-inside-2
     code-inside-requires
-    read-no-requires
     returns
     returns-2)
