@@ -357,7 +357,9 @@ fn growth() -> Vec<Contest> {
     });
     counts(calls, "frames", &films::push_measured);
     let entries = [1_000, 10_000, 100_000, 1_000_000];
-    counts(entries, "entries", &|entries| films::cadences(entries, false));
+    counts(entries, "entries", &|entries| {
+        films::cadences(entries, false)
+    });
     counts(calls, "calls", &weaves::weaver_new);
     counts(calls, "calls", &weaves::weaver_clear);
     all

@@ -21,9 +21,21 @@ fn a_false_table_is_found() {
         ("| `desk_comb` |", "| `desk_comb_rgba` |", "has two rows"),
         ("| `desk_comb` |", "| `desk_combs` |", "no crate exports it"),
         ("| `desk_comb` |", "| desk_comb |", "has no row"),
-        ("desk/untouched `combs::desk_comb`", "desk/untouched `combs::comb`", "no wrong program"),
-        ("desk/untouched `combs::desk_comb`", "desk/elsewhere `combs::desk_comb`", "is no edit"),
-        ("desk/untouched `combs::desk_comb`", "", "neither an edit nor a reason"),
+        (
+            "desk/untouched `combs::desk_comb`",
+            "desk/untouched `combs::comb`",
+            "no wrong program",
+        ),
+        (
+            "desk/untouched `combs::desk_comb`",
+            "desk/elsewhere `combs::desk_comb`",
+            "is no edit",
+        ),
+        (
+            "desk/untouched `combs::desk_comb`",
+            "",
+            "neither an edit nor a reason",
+        ),
     ];
     for (old, new, wanted) in changes {
         let changed = page().replacen(old, new, 1);
@@ -58,10 +70,17 @@ fn faults(page: &str) -> Vec<String> {
             faults.push(format!("`{name}`: no crate exports it"));
         }
         if cells.len() != 1 + SHAMS {
-            faults.push(format!("`{name}` has {} cells; expected one for each of {SHAMS} shams", cells.len() - 1));
+            faults.push(format!(
+                "`{name}` has {} cells; expected one for each of {SHAMS} shams",
+                cells.len() - 1
+            ));
         }
         for cell in &cells[1..] {
-            faults.extend(cell_faults(cell).into_iter().map(|fault| format!("`{name}`: {fault}")));
+            faults.extend(
+                cell_faults(cell)
+                    .into_iter()
+                    .map(|fault| format!("`{name}`: {fault}")),
+            );
         }
     }
     for name in exported.difference(&rows) {

@@ -117,9 +117,8 @@ mod tests {
         // An entry that is cut short is not judged.
         assert_eq!(of(2, 2, 1, 1), 6);
 
-        let push = |parity, store, kept, taken| {
-            detector_push(96, parity, (SHAPE, 21), store, kept, taken)
-        };
+        let push =
+            |parity, store, kept, taken| detector_push(96, parity, (SHAPE, 21), store, kept, taken);
         assert_eq!(push(1, 10, 10, MOST_FRAMES - 1), 0);
         assert_eq!(push(1, 10, 10, MOST_FRAMES), 9);
         assert_eq!((push(1, 9, 0, MOST_FRAMES), push(1, 9, 10, 0)), (7, 6));
