@@ -4,7 +4,7 @@ use Prim.Native.Nat.{ℕ, zero, suc, _+_, min, _<_, _≤_}
 use native.Mathlib.Omega.{arith}
 use mathlib.Core.Path.{_≡_, refl, sym, ap, _∙_, subst}
 use mathlib.Core.Logic.{_⊎_, inl, inr, ⊎-elim, _↔_}
-use mathlib.Core.List.{List, [], _∷_}
+use mathlib.Core.List.{List, [], _∷_, _++_}
 use mathlib.Core.Bool.{Bool, true, false, cond}
 use lib.ListN.{length, drop}
 use lib.Dec.{leb, ltb}
@@ -21,7 +21,7 @@ use Rattle.pulldown.specs.Table.{cadenceAt}
 use Rattle.pulldown.specs.Runs.{Frame, frameOf, stepOf, Meets, meets, phaseOf, lockFrame, contradicts, goOn, runOf, cadenceBy, foretold}
 use Rattle.pulldown.specs.Lock.{advanceOf, pushLock, lockOf}
 use Rattle.pulldown.specs.Claims.{Third, ThirdDemand, OnePhase, MeetsDecided, PhaseSays}
-use Rattle.pulldown.specs.Claims.{Contradicts, Runs, Locked, LockFrameSays, LockedSays, PredictSays, PushSays, PredictNo, AnswerSettled, CodeSeen}
+use Rattle.pulldown.specs.Claims.{Contradicts, Runs, RunConsecutive, Locked, LockFrameSays, LockedSays, PredictSays, PushSays, PredictNo, AnswerSettled, CodeSeen}
 use Rattle.pulldown.proofs.Bools.{known, clash, and-left, and-right}
 use Rattle.pulldown.proofs.Phases.{meets-of, meets-from, phase-is, phase-met, phase-none, no-phase, none-met, met-before}
 use Rattle.pulldown.proofs.Phases as phases
@@ -127,6 +127,26 @@ module _ (s : Symbol) (earlier : List Seen) where
 pub runs : Runs
 runs s earlier = record { fresh = refl; not-comparable = refl; contradicting = contradicting s earlier; longer = longer s earlier }
 
+-- an empty run has no frame
+no-frame : (f : Frame) (earlier later : List Frame) → [] ≡ later ++ (f ∷ earlier) → ⊥
+no-frame f earlier [] e = omega (arith, ap length e)
+no-frame f earlier (g ∷ later) e = omega (arith, ap length e)
+
+consecutive-after : (b : Bool) (n : ℕ) (s : Symbol) (run : List Frame)
+    → ((f : Frame) (earlier later : List Frame) → run ≡ later ++ (f ∷ earlier) → f .number + length later + 1 ≡ n)
+    → (f : Frame) (earlier later : List Frame) → cond b [] (frameOf n s ∷ run) ≡ later ++ (f ∷ earlier) → f .number + length later + 1 ≡ suc n
+consecutive-after true n s run before f earlier later e = absurd (no-frame f earlier later e)
+consecutive-after false n s run before f earlier [] e = let z : n ≡ f .number = cc in omega arith
+consecutive-after false n s run before f earlier (g ∷ later) e = let z = before f earlier later cc in omega arith
+
+pub run-consecutive : RunConsecutive
+unfolding goOn
+run-consecutive [] g earlier later e = absurd (no-frame g earlier later e)
+run-consecutive (seen.NotComparable ∷ seens) g earlier later e = absurd (no-frame g earlier later e)
+run-consecutive (seen.Symbol s ∷ seens) g earlier later e =
+    consecutive-after (contradicts (phaseOf (runOf seens)) (frameOf (length seens) s)) (length seens) s (runOf seens) (run-consecutive seens) g earlier
+    later e
+
 -- ---- numbers
 
 -- a number that is 0 where a test passes
@@ -207,11 +227,11 @@ not-none (suc (suc (suc (suc (suc step))))) h e = omega arith
 -- the cadence by the phase of the run is what the demand says
 pub third : (n : ℕ) (run : List Frame) → Third n run (cadenceBy (phaseOf run) n)
 third n run = record {
+  exactly = (
+    λ other. ⊎-elim (λ met. (phaseOf run, met .0, met .1)) (λ none. absurd (other (unmet (none .0)))) (met-or-none run),
+    λ met e. not-none (stepOf (met .0) n) (omega arith) (sym (entry (met .0) (met .1) (met .2)) ∙ e),
+  );
   entry = entry;
-  given = λ p h m e. not-none (stepOf p n) (omega arith) (sym (entry p h m) ∙ e);
-  only = λ other. ⊎-elim (λ met. (phaseOf run, met .0, met .1)) (λ none. absurd (other (unmet (none .0)))) (met-or-none run);
-  none = λ none. ⊎-elim (λ met. absurd (none (phaseOf run) (met .0) (met .1))) (λ none. unmet (none .0)) (met-or-none run);
-  one = λ p q. one-phase p q run;
 }
   where
     entry : (p : ℕ) → p < 5 → Meets p run → cadenceBy (phaseOf run) n ≡ cadenceAt (stepOf p n)

@@ -22,16 +22,10 @@ use Rattle.pulldown.specs.Codes.{codeOf, seenBy}
 
 -- what the demand says of frame n, the newest of a run, and the cadence that it gets
 pub record Third (n : ℕ) (run : List Frame) (cadence : Cadence) : Type 0 where
-  -- a phase that meets the tests gives its table entry
+  -- it is other than None exactly when some phase meets the four tests,
+  pub exactly : (cadence ≡ None → ⊥) ↔ ((p : ℕ) × (p < 5) × Meets p run)
+  -- and then it is the table entry of that phase's step; only one phase can meet them (`OnePhase`)
   pub entry : (p : ℕ) → p < 5 → Meets p run → cadence ≡ cadenceAt (stepOf p n)
-  -- which is not None
-  pub given : (p : ℕ) → p < 5 → Meets p run → cadence ≡ None → ⊥
-  -- only a phase that meets them gives other than None
-  pub only : (cadence ≡ None → ⊥) → (p : ℕ) × (p < 5) × Meets p run
-  -- and where none does, it is None
-  pub none : ((p : ℕ) → p < 5 → Meets p run → ⊥) → cadence ≡ None
-  -- only one phase can meet them
-  pub one : (p q : ℕ) → p < 5 → q < 5 → Meets p run → Meets q run → p ≡ q
 
 -- Take any frames pushed to a fresh lock, and one more with fewer than 4,000,000,000 before it: it is not refused, and the cadence that
 -- it gets is what the demand says.
@@ -68,6 +62,12 @@ pub record RunGrows (s : Symbol) (earlier : List Seen) : Type 0 where
 
 abbrev pub Runs : Type 0
 Runs = (s : Symbol) (earlier : List Seen) → RunGrows s earlier
+
+-- The frames of a run have consecutive numbers, up to that of the newest frame: so many frames of the run came after f, so much is f's number
+-- below the newest one's.
+abbrev pub RunConsecutive : Type 0
+RunConsecutive =
+    (seens : List Seen) (f : Frame) (earlier later : List Frame) → runOf seens ≡ later ++ (f ∷ earlier) → f .number + length later + 1 ≡ length seens
 
 -- The phase of a run is the one that its newest frame meets, and 5 where it meets none.
 abbrev pub PhaseSays : Type 0

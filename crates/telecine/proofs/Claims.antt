@@ -18,7 +18,7 @@ use Rattle.pulldown.proofs.Claims.{third, foretold-by, answer-settled, phase-sa
 use Rattle.pulldown.proofs.Claims as lock-proofs
 use Rattle.telecine.specs.Detector.{measuredTests, pushTests}
 use Rattle.telecine.specs.History.{Push, picture, measured, Call, push, reset, State, next, after, numberOf, cadenceOf, lastPicture, lastParity, seenOf, seens, framesOf, runOf, refusalTests, refusalOf, taken}
-use Rattle.telecine.specs.Claims.{ThirdDemand, Contradicts, Runs, RefusalKnown, RefusalSays, PushSays, MeasuredSays, RefusedLeaves, RefusedCountsNothing}
+use Rattle.telecine.specs.Claims.{ThirdDemand, Contradicts, Runs, RunConsecutive, RefusalKnown, RefusalSays, PushSays, MeasuredSays, RefusedLeaves, RefusedCountsNothing}
 use Rattle.telecine.specs.Claims.{LockedSays, PredictSays, ResetForgets, ResetIsFresh, PushedSettled}
 use Rattle.telecine.proofs.Held.{number-known, cadence-known, any-held, few}
 use Rattle.telecine.proofs.Held as held
@@ -52,6 +52,9 @@ runs u earlier = record {
   contradicting = contradicting u earlier;
   longer = λ s e none. rw e (lock-proofs.runs s (seens earlier) .longer (λ c. none (same-contradiction u earlier s e c)));
 }
+
+pub run-consecutive : RunConsecutive
+run-consecutive calls f earlier later e = lock-proofs.run-consecutive (seens calls) f earlier later e
 
 -- ---- refusals
 pub refusal-known : RefusalKnown

@@ -13,7 +13,7 @@ use Rattle.field.specs.declared.Chosen.the-variants as chosen
 use Rattle.plane.specs.declared.Shape.{Shape}
 use Rattle.pulldown.specs.declared.Symbol.{Symbol}
 use Rattle.pulldown.specs.declared.Seen.the-variants as seen
-use Rattle.pulldown.specs.Runs.{frameOf, stillOrExpected, Meets, phaseOf, lockFrame, foretold}
+use Rattle.pulldown.specs.Runs.{Frame, frameOf, stillOrExpected, Meets, phaseOf, lockFrame, foretold}
 use Rattle.pulldown.specs.Lock.{answerNo, answerValues, lockedOf, predictCadence}
 use Rattle.pulldown.specs.Claims.{Third}
 use Rattle.telecine.specs.declared.Detector.{Detector}
@@ -56,6 +56,11 @@ pub record RunGrows (u : Push) (earlier : List Call) : Type 0 where
 abbrev pub Runs : Type 0
 Runs = (u : Push) (earlier : List Call) → RunGrows u earlier
 
+-- The frames of a run have consecutive numbers, up to that of the newest frame.
+abbrev pub RunConsecutive : Type 0
+RunConsecutive =
+    (calls : List Call) (f : Frame) (earlier later : List Frame) → runOf calls ≡ later ++ (f ∷ earlier) → f .number + length later + 1 ≡ framesOf calls
+
 -- ---- refusals
 
 -- What a push gets is known from the frames before it that were taken, and the length of the store.
@@ -72,11 +77,12 @@ PushSays = (d : Detector) (s : Shape) (bytes room : ℕ) → Says (pushTests d s
 abbrev pub MeasuredSays : Type 0
 MeasuredSays = (d : Detector) → Says (measuredTests d)
 
--- A refused push leaves any detector and any store as they were,
+-- A refused push leaves any detector and any store as they were: also a store of another length than the history's, so that no refused call is
+-- outside the demand.
 abbrev pub RefusedLeaves : Type 0
 RefusedLeaves = (state : State) (u : Push) → (numberIn state u ≡ 0 → ⊥) → next state (push u) ≡ state
 
--- so that refused calls count for nothing.
+-- So refused calls count for nothing.
 abbrev pub RefusedCountsNothing : Type 0
 RefusedCountsNothing = (store : List ℕ) (calls : List Call) → after store calls ≡ after store (taken (length store) calls)
 
