@@ -4,3 +4,4 @@ pub mod Kept
 pub mod Calls
 pub mod Sized
 pub mod Claims
+pub mod Demand

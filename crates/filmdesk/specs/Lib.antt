@@ -2,4 +2,6 @@
 pub mod Kept
 pub mod Inner
 pub mod Film
+pub mod Left
+pub mod History
 pub mod Claims

@@ -30,6 +30,7 @@ ghost use Rattle.desk.specs.Planes.{shapeNamed};
 ghost use Rattle.filmdesk.specs.Kept.{numberIf, detectorIn, detectorNumbers, keeping, chosenNumber, chosenNamed};
 ghost use Rattle.filmdesk.specs.Inner.{courseOf, detectorWith};
 ghost use Rattle.filmdesk.specs.Film.{busyNo, newNo, stateNo, predictStateNo, measuredNamed, measuredStateNo, pushStateNo};
+ghost use Rattle.filmdesk.specs.Left.{newState, resetState, lockedByte, foretoldByte, measuredState, measuredByte};
 
 const STATE_BYTES: usize = 96;
 
@@ -344,7 +345,7 @@ pub extern "C" fn desk_cadences(entries: &[u8], out: &mut [u8]) -> u8
 #[no_mangle]
 pub extern "C" fn desk_detector_new(state: &mut [u8]) -> u8
     ensures { λ r. ⌜ r ≡ newNo (length (now (state .entry))) ⌝ }
-    ensures { λ r. ⌜ now (state .exit) ≡ written r (keeping freshDetector (now (state .entry))) (now (state .entry)) ⌝ }
+    ensures { λ r. ⌜ now (state .exit) ≡ newState r (now (state .entry)) ⌝ }
 {
     if state.len() < STATE_BYTES {
         return refusal::SHORT_OUTPUT;
@@ -357,7 +358,7 @@ pub extern "C" fn desk_detector_new(state: &mut [u8]) -> u8
 #[no_mangle]
 pub extern "C" fn desk_detector_reset(state: &mut [u8]) -> u8
     ensures { λ r. ⌜ r ≡ stateNo (length (now (state .entry))) ⌝ }
-    ensures { λ r. ⌜ now (state .exit) ≡ written r (keeping (resetOf (detectorIn (now (state .entry)))) (now (state .entry))) (now (state .entry)) ⌝ }
+    ensures { λ r. ⌜ now (state .exit) ≡ resetState r (now (state .entry)) ⌝ }
 {
     if state.len() < STATE_BYTES {
         return refusal::SHORT_INPUT;
@@ -370,7 +371,7 @@ pub extern "C" fn desk_detector_reset(state: &mut [u8]) -> u8
 #[no_mangle]
 pub extern "C" fn desk_detector_locked(state: &[u8], locked: &mut u8) -> u8
     ensures { λ r. ⌜ r ≡ stateNo (length (now (state .entry))) ⌝ }
-    ensures { λ r. ⌜ now (locked .exit) ≡ written r (numberIf (lockedOf (detectorIn (now (state .entry)) .lock))) (now (locked .entry)) ⌝ }
+    ensures { λ r. ⌜ now (locked .exit) ≡ lockedByte r (now (state .entry)) (now (locked .entry)) ⌝ }
 {
     if state.len() < STATE_BYTES {
         return refusal::SHORT_INPUT;
@@ -384,7 +385,7 @@ pub extern "C" fn desk_detector_locked(state: &[u8], locked: &mut u8) -> u8
 #[no_mangle]
 pub extern "C" fn desk_detector_predict(state: &[u8], ahead: u64, cadence: &mut u8) -> u8
     ensures { λ r. ⌜ r ≡ predictStateNo (length (now (state .entry))) ahead ⌝ }
-    ensures { λ r. ⌜ now (cadence .exit) ≡ written r (cadenceNumber (predictCadence (detectorIn (now (state .entry)) .lock) ahead)) (now (cadence .entry)) ⌝ }
+    ensures { λ r. ⌜ now (cadence .exit) ≡ foretoldByte r (now (state .entry)) ahead (now (cadence .entry)) ⌝ }
 {
     if state.len() < STATE_BYTES {
         return refusal::SHORT_INPUT;
@@ -413,8 +414,8 @@ pub extern "C" fn desk_detector_push_measured(
     cadence: &mut u8,
 ) -> u8
     ensures { λ r. ⌜ r ≡ measuredStateNo parity present (length (now (state .entry))) (detectorIn (now (state .entry))) ⌝ }
-    ensures { λ r. ⌜ now (state .exit) ≡ written r (keeping (measuredDetector (detectorIn (now (state .entry))) (parityNamed parity) (measuredNamed present busy total «other_busy» «other_total»)) (now (state .entry))) (now (state .entry)) ⌝ }
-    ensures { λ r. ⌜ now (cadence .exit) ≡ written r (cadenceNumber (measuredCadence (detectorIn (now (state .entry))) (parityNamed parity) (measuredNamed present busy total «other_busy» «other_total»))) (now (cadence .entry)) ⌝ }
+    ensures { λ r. ⌜ now (state .exit) ≡ measuredState r (now (state .entry)) parity (measuredNamed present busy total «other_busy» «other_total») ⌝ }
+    ensures { λ r. ⌜ now (cadence .exit) ≡ measuredByte r (now (state .entry)) parity (measuredNamed present busy total «other_busy» «other_total») (now (cadence .entry)) ⌝ }
 {
     let named = (parity <= 1) & (present <= 1);
     if !named {
