@@ -1,127 +1,34 @@
 -- The claims over any calls: the state always holds the detector that the frames given so far leave, of which crate `telecine` has the same claims.
 -- Assumes nothing.
-use Prim.Native.Nat.{ℕ, _+_, _≤_}
-use mathlib.Core.Path.{_≡_, refl, sym, ap, subst, _∙_}
+use Prim.Native.Nat.{ℕ, _≤_}
+use mathlib.Core.Path.{_≡_, refl, sym, ap, _∙_}
 use mathlib.Core.Logic.{_↔_, ⊎-elim}
-use mathlib.Core.Bool.{Bool, true, false, cond, _&&_}
-use mathlib.Core.List.{List, [], _∷_, _++_}
+use mathlib.Core.Bool.{Bool, true, false, cond}
+use mathlib.Core.List.{List, [], _∷_}
 use native.Mathlib.Omega.{arith}
-use lib.Dec.{leb, eqb}
-use lib.ListN.{length, length-append}
+use lib.ListN.{length}
 use borrow.Author.Tests.{le-leb, ne-eqb}
-use Rattle.laws.specs.Refusal.{lowest, written}
-use Rattle.laws.proofs.Rows.{length-over}
-use Rattle.field.specs.Field.{parityNamed, cadenceNumber}
-use Rattle.packed.specs.Packed.{packedOf}
-use Rattle.packed.proofs.Claims.{packed-size}
-use Rattle.pulldown.specs.Runs.{Meets}
-use Rattle.pulldown.specs.Lock.{lockedOf}
+use Rattle.laws.specs.Refusal.{lowest}
+use Rattle.field.specs.Field.{cadenceNumber}
 use Rattle.pulldown.proofs.Bools.{known, clash}
-use Rattle.telecine.specs.declared.Detector.{Detector}
 use Rattle.telecine.specs.Detector.{freshDetector}
 use Rattle.telecine.specs.History as calls
 use Rattle.telecine.proofs.Held as telecine-held
 use Rattle.telecine.proofs.Claims as telecine
-use Rattle.desk.specs.Planes.{shapeNamed}
-use Rattle.filmdesk.specs.Kept.{numberIf, detectorNumbers, detectorBytes, detectorIn, keeping}
-use Rattle.filmdesk.specs.Film.{stateNo, predictStateNo, measuredNamed}
-use Rattle.filmdesk.specs.History.{Given, picture, counts, Call, new, push, reset, Lent, numberIn, byteIn, numberOf, next, after, named, frameOf, callsOf, taken}
-use Rattle.filmdesk.specs.Claims.{Sized, RefusedLeaves, RefusalKnown, Demanded, ThirdDemand, LockedOverCalls, PredictOverCalls}
-use Rattle.filmdesk.proofs.Claims.{found-again, fresh-sized, reset-sized, measured-sized, push-sized}
+use Rattle.filmdesk.specs.Kept.{numberIf}
+use Rattle.filmdesk.specs.Film.{stateNo, predictStateNo}
+use Rattle.filmdesk.specs.History.{Given, picture, counts, Call, new, push, reset, Lent, numberIn, numberOf, next, after, named, frameOf, callsOf}
+use Rattle.filmdesk.specs.Claims.{RefusedLeaves, RefusalKnown, ThirdDemand, LockedOverCalls, PredictOverCalls}
+use Rattle.filmdesk.proofs.Claims.{found-again, fresh-sized, reset-sized}
+use Rattle.filmdesk.proofs.Holds.{Holds, room-after, written-by}
+use Rattle.filmdesk.proofs.Frames.{number-is, number-named, number-unnamed, push-named, push-unnamed, byte-is}
 
--- ---- what is lent holds what the calls left
-
--- the state has room, and the detector in it, with the store, are those of a history of the detector's own calls
-record Holds (l : Lent) (s : calls.State) : Type 0 where
-  room : 96 ≤ length (l .state)
-  detector : detectorIn (l .state) ≡ s .detector
-  sized : Sized (s .detector)
-  store : l .store ≡ s .store
-
-bytes-of : (d : Detector) → Sized d → length (detectorBytes d) ≡ 96
-bytes-of d z =
-    omega
-    (arith, length-append (packedOf (detectorNumbers d)) (d .lock .ring ++ (d .lock .phase ∷ [])), length-append (d .lock .ring) (d .lock .phase ∷ []), packed-size (detectorNumbers d), z .ring)
-
-room-after : (d : Detector) (state : List ℕ) → Sized d → 96 ≤ length state → 96 ≤ length (keeping d state)
-room-after d state z h = omega (arith, bytes-of d z, length-over (detectorBytes d) state (omega (arith, bytes-of d z)))
-
--- a call writes a detector to the state, or leaves the state as it was
-record Written (state : List ℕ) (d : Detector) : Type 0 where
-  room : 96 ≤ length state
-  detector : detectorIn state ≡ d
-
-written-by : (b : Bool) (state : List ℕ) (old d : Detector) → 96 ≤ length state → detectorIn state ≡ old → Sized d
-    → Written (cond b (keeping d state) state) (cond b d old)
-written-by true state old d h e z = record { room = room-after d state z h; detector = found-again d state z }
-written-by false state old d h e z = record { room = h; detector = e }
-
--- the detector's own definitions say a second time what a refusal leaves
-once : {A : Type 0} (number : ℕ) (value old : A) → written number (written number value old) old ≡ written number value old
-once number value old = by-test (eqb number 0)
-  where
-    by-test : (b : Bool) → cond b (cond b value old) old ≡ cond b value old
-    by-test true = refl
-    by-test false = refl
-
--- ---- numbers: those of the detector's own calls, behind the test of the host's codes and of the state's length
-push-tests : (named good long whole kept fits few : Bool) → long ≡ true
-    → lowest ((3, named) ∷ (4, good) ∷ (6, long && whole && kept) ∷ (7, fits) ∷ (9, few) ∷ [])
-    ≡ cond named (lowest ((4, good) ∷ (6, whole && kept) ∷ (7, fits) ∷ (9, few) ∷ [])) 3
+-- ---- `new` and `reset`
+reset-holds : (l : Lent) (s : calls.State) → Holds l s → Holds (next l reset) (calls.next s calls.reset)
 unfolding lowest
-push-tests named good long whole kept fits few e = rw e
-
-measured-tests : (named long few : Bool) → long ≡ true
-    → lowest ((3, named) ∷ (6, long) ∷ (9, few) ∷ []) ≡ cond named (lowest ((9, few) ∷ [])) 3
-unfolding lowest
-measured-tests named long few e = rw e
-
-module _ (l : Lent) (s : calls.State) (h : Holds l s) where
-  long : leb 96 (length (l .state)) ≡ true
-  long = le-leb 96 (length (l .state)) (h .room)
-
-  number-is : (u : Given) → numberIn l u ≡ cond (named u) (calls.numberIn s (frameOf u)) 3
-  number-is (picture parity plane n) = push-tests _ _ _ _ _ _ _ long ∙ rw (h .detector, h .store) refl
-  number-is (counts parity present busy total other-busy other-total) = measured-tests _ _ _ long ∙ rw (h .detector) refl
-
-  number-named : (u : Given) → named u ≡ true → numberIn l u ≡ calls.numberIn s (frameOf u)
-  number-named u e = number-is u ∙ rw e refl
-
-  number-unnamed : (u : Given) → named u ≡ false → numberIn l u ≡ 3
-  number-unnamed u e = number-is u ∙ rw e refl
-
-  -- ---- one call more
-  push-named : (u : Given) → named u ≡ true → Holds (next l (push u)) (calls.next s (calls.push (frameOf u)))
-  push-named (picture parity plane n) e =
-      let u = picture parity plane n in
-      let number = calls.numberIn s (frameOf u) in
-      let z = push-sized (s .detector) (s .store) plane (shapeNamed n) (parityNamed parity) (h .sized) in
-      let w = written-by (eqb number 0) (l .state) (s .detector) _ (h .room) (h .detector) z in
-      rw (number-named u e, h .detector, h .store)
-      (record { room = w .room; detector = w .detector ∙ once number _ (s .detector); sized = z; store = once number _ (s .store) })
-  push-named (counts parity present busy total other-busy other-total) e =
-      let u = counts parity present busy total other-busy other-total in
-      let number = calls.numberIn s (frameOf u) in
-      let z = measured-sized (s .detector) (parityNamed parity) (measuredNamed present busy total other-busy other-total) (h .sized) in
-      let w = written-by (eqb number 0) (l .state) (s .detector) _ (h .room) (h .detector) z in
-      rw (number-named u e, h .detector)
-      (record { room = w .room; detector = w .detector ∙ once number _ (s .detector); sized = z; store = h .store })
-
-  push-unnamed : (u : Given) → named u ≡ false → Holds (next l (push u)) s
-  push-unnamed (picture parity plane n) e = rw (number-unnamed (picture parity plane n) e) h
-  push-unnamed (counts parity present busy total other-busy other-total) e =
-      rw (number-unnamed (counts parity present busy total other-busy other-total) e) h
-
-  reset-holds : Holds (next l reset) (calls.next s calls.reset)
-  unfolding lowest
-  reset-holds =
-      let w = written-by true (l .state) (s .detector) _ (h .room) (h .detector) (reset-sized (s .detector)) in
-      rw (long, h .detector) (record { room = w .room; detector = w .detector; sized = reset-sized (s .detector); store = h .store })
-
-  -- the byte of a frame's cadence
-  byte-is : (u : Given) (before : ℕ) → named u ≡ true → numberIn l u ≡ 0 → byteIn l u before ≡ cadenceNumber (calls.cadenceIn s (frameOf u))
-  byte-is (picture parity plane n) before e done = rw (done, h .detector, h .store)
-  byte-is (counts parity present busy total other-busy other-total) before e done = rw (done, h .detector)
+reset-holds l s h =
+    let w = written-by true (l .state) (s .detector) _ (h .room) (h .detector) (reset-sized (s .detector)) in
+    rw (le-leb 96 (length (l .state)) (h .room), h .detector) (record { room = w .room; detector = w .detector; sized = reset-sized (s .detector); store = h .store })
 
 new-holds : (l : Lent) → 96 ≤ length (l .state) → Holds (next l new) (calls.after (l .store) [])
 unfolding lowest

@@ -4,4 +4,6 @@ pub mod Kept
 pub mod Calls
 pub mod Sized
 pub mod Claims
+pub mod Holds
+pub mod Frames
 pub mod Demand
