@@ -11,11 +11,11 @@ use borrow.Author.Tests.{le-leb, ne-eqb}
 use Rattle.laws.specs.Refusal.{lowest}
 use Rattle.field.specs.Field.{cadenceNumber}
 use Rattle.pulldown.proofs.Bools.{known, clash}
-use Rattle.telecine.specs.Detector.{freshDetector}
+use Rattle.telecine.specs.Detector.{freshDetector, resetOf}
 use Rattle.telecine.specs.History as calls
 use Rattle.telecine.proofs.Held as telecine-held
 use Rattle.telecine.proofs.Claims as telecine
-use Rattle.filmdesk.specs.Kept.{numberIf}
+use Rattle.filmdesk.specs.Kept.{numberIf, detectorIn}
 use Rattle.filmdesk.specs.Film.{stateNo, predictStateNo}
 use Rattle.filmdesk.specs.History.{Given, picture, counts, Call, new, push, reset, Lent, numberIn, numberOf, next, after, named, frameOf, callsOf}
 use Rattle.filmdesk.specs.Claims.{RefusedLeaves, RefusalKnown, ThirdDemand, LockedOverCalls, PredictOverCalls}
@@ -27,8 +27,10 @@ use Rattle.filmdesk.proofs.Frames.{number-is, number-named, number-unna
 reset-holds : (l : Lent) (s : calls.State) → Holds l s → Holds (next l reset) (calls.next s calls.reset)
 unfolding lowest
 reset-holds l s h =
-    let w = written-by true (l .state) (s .detector) _ (h .room) (h .detector) (reset-sized (s .detector)) in
-    rw (le-leb 96 (length (l .state)) (h .room), h .detector) (record { room = w .room; detector = w .detector; sized = reset-sized (s .detector); store = h .store })
+    let z = reset-sized (detectorIn (l .state)) in
+    let w = written-by true (l .state) (detectorIn (l .state)) (resetOf (detectorIn (l .state))) (h .room) refl z in
+    rw (le-leb 96 (length (l .state)) (h .room))
+    (record { room = w .room; detector = w .detector ∙ ap resetOf (h .detector); sized = reset-sized (s .detector); store = h .store })
 
 new-holds : (l : Lent) → 96 ≤ length (l .state) → Holds (next l new) (calls.after (l .store) [])
 unfolding lowest
