@@ -2,5 +2,6 @@
 pub mod General
 pub mod Kept
 pub mod Calls
+pub mod Grids
 pub mod Sized
 pub mod Claims
