@@ -1,13 +1,11 @@
 -- How the private functions read the rows of a picture. No public contract cites this file. Assumes nothing.
-use Prim.Native.Nat.{ℕ, _+_, _-_, _*_, _/_, _%_, _^_, _≤_, _<_}
+use Prim.Native.Nat.{ℕ, _+_, _*_, _/_, _%_, _^_, _≤_, _<_}
 use mathlib.Core.Path.{_≡_}
-use mathlib.Core.Bool.{Bool, true, _&&_}
+use mathlib.Core.Bool.{true}
 use mathlib.Core.List.{List}
-use lib.Dec.{leb}
 use lib.ListN.{length, getD}
 use Rattle.plane.specs.declared.Shape.{Shape}
-use Rattle.plane.specs.declared.Layout.{Layout}
-use Rattle.plane.specs.Plane.{alone, goodShape, planeBytes, shift}
+use Rattle.plane.specs.Plane.{goodShape, planeBytes}
 use Rattle.block.specs.Block.{keptOf}
 
 -- What a call that gets 0 has passed: the shape is within the bounds, the plane has the bytes that it needs, the store has room for the frame.
@@ -26,14 +24,6 @@ pub record RowReady (s : Shape) (bytes y : ℕ) : Type 0 where
 pub record KeptRow (row bytes : List ℕ) (s : Shape) (y : ℕ) : Type 0 where
   pub wide : length row ≡ s .width
   pub sample : (x : ℕ) → x < s .width → getD row x 0 ≡ keptOf bytes s x y
-
--- its bytes are its kept samples
-abbrev pub byteRows : Shape → Bool
-byteRows s = alone (s .layout) && leb (s .depth) 8
-
--- how far right the number that is stored for a sample goes: as its layout says, and then to 8 bits
-abbrev pub down : Layout → ℕ → ℕ
-down layout depth = shift layout depth + (depth - 8)
 
 -- the kept sample in column x of a row that holds two bytes a sample, the low one first
 abbrev pub pairKept : List ℕ → ℕ → ℕ → ℕ

@@ -5,7 +5,6 @@
 //
 // Which blocks of a field moved against the frame that a store keeps. Assumes nothing.
 ghost use mathlib.Core.Path.{_≡_};
-ghost use mathlib.Core.Bool.{true};
 ghost use Prim.Native.Nat.{_+_, _*_, _<_, _≤_, min};
 ghost use lib.Dec.{ltb};
 ghost use lib.ListN.{length, getD, take, drop};
@@ -13,12 +12,12 @@ ghost use Rattle.laws.specs.Refusal.{whenDone, written};
 ghost use Rattle.laws.specs.Rows.{listed, over};
 ghost use Rattle.laws.specs.Sums.{sumOver, apart};
 ghost use Rattle.field.specs.Field.{firstRowOf};
+ghost use Rattle.plane.specs.Plane.{gridShape};
 ghost use Rattle.block.specs.Block.{keptOf, keptFrame, rowsOf, oneIf, differs, blocksAcross, bandsDown, totalOf, busyField};
 ghost use Rattle.block.specs.Answer.{countedNo, countedValues, countsOf, countNo, keepNo};
-ghost use Rattle.block.specs.Rows.{Ready, RowReady, KeptRow, byteRows, down, pairKept};
+ghost use Rattle.block.specs.Rows.{Ready, RowReady, KeptRow, pairKept};
 ghost use Rattle.block.specs.Counters.{differingIn, differingRow, bandRow, busyBy, Counters, Added};
-use plane::Layout;
-use plane::Shape;
+use plane::Grid;
 
 // Busy blocks, and all blocks, of a field.
 pub struct Counts {
@@ -41,33 +40,14 @@ fn part_at(bytes: &[u8], start: usize, n: usize) -> &[u8]
 
 // ---- rows as they are kept
 
-fn has_byte_rows(shape: Shape) -> bool
-    ensures { λ r. ⌜ r ≡ byteRows shape ⌝ }
-{
-    let layout = shape.layout;
-    plane::is_alone(layout) & (shape.depth <= 8)
-}
-
-// A biplanar code goes right by 16 - depth and then by depth - 8.
-fn down_of(layout: Layout, depth: u8) -> u16
-    requires { ⌜ (9 ≤ depth) × (depth ≤ 16) ⌝ }
-    ensures { λ r. ⌜ (r ≡ down layout depth) × (r ≤ 8) ⌝ }
-{
-    if plane::is_biplanar(layout) {
-        8
-    } else {
-        depth as u16 - 8
-    }
-}
-
 fn wide(byte: u8) -> u16
     ensures { λ r. ⌜ (r ≡ byte) × (r < 256) ⌝ }
 {
     byte as u16
 }
 
-// A row for each way that samples stand. The first two loops run over parts, so that the compiler
-// drops every index test and vectorises them.
+// A row of one byte a sample, and one of two. The loops run over parts, so that the compiler drops
+// every index test and vectorises them.
 fn keep_bytes(to: &mut [u8], row: &[u8])
     requires { ⌜ length (now row) ≡ length (now to) ⌝ }
     ensures { λ _. ⌜ now (to .exit) ≡ listed (length (now (to .entry))) (λ x. getD (now (row .entry)) x 0) ⌝ }
@@ -92,55 +72,27 @@ fn keep_pairs(to: &mut [u8], row: &[u8], right: u16)
     }
 }
 
-fn kept_at(plane: &[u8], shape: Shape, x: u16, y: u16) -> u8
-    requires { ⌜ (8 ≤ shape .depth) × (shape .depth ≤ 16) ⌝ }
-    ensures { λ r. ⌜ r ≡ keptOf (now (plane .entry)) shape x y ⌝ }
+// Row y of a picture of one byte a sample, where it stands.
+fn byte_row(plane: &[u8], grid: Grid, y: usize) -> &[u8]
+    requires { ⌜ RowReady (gridShape grid) (length (now plane)) y × (grid .depth ≤ 8) ⌝ }
+    ensures { λ r. ⌜ KeptRow (now r) (now (plane .entry)) (gridShape grid) y ⌝ }
 {
-    let deeper = shape.depth - 8;
-    ((plane::code_at(plane, shape, x, y) >> deeper) % 256) as u8
-}
-
-fn keep_shared(to: &mut [u8], plane: &[u8], shape: Shape, y: u16)
-    requires { ⌜ (length (now to) ≡ shape .width) × (8 ≤ shape .depth) × (shape .depth ≤ 16) ⌝ }
-    ensures { λ _. ⌜ now (to .exit) ≡ listed (shape .width) (λ x. keptOf (now (plane .entry)) shape x y) ⌝ }
-{
-    let mut x: u16 = 0;
-    while x < shape.width {
-        let i = x as usize;
-        to[i] = kept_at(plane, shape, x, y);
-        x += 1;
-    }
-}
-
-// Row y of a picture whose rows are bytes, where it stands.
-fn byte_row(plane: &[u8], shape: Shape, y: usize) -> &[u8]
-    requires { ⌜ RowReady shape (length (now plane)) y × (byteRows shape ≡ true) ⌝ }
-    ensures { λ r. ⌜ KeptRow (now r) (now (plane .entry)) shape y ⌝ }
-{
-    part_at(plane, y * (shape.stride as usize), shape.width as usize)
+    part_at(plane, y * (grid.stride as usize), grid.width as usize)
 }
 
 // Row y of a picture, kept in a place of just its width.
-fn keep_row(to: &mut [u8], plane: &[u8], shape: Shape, y: usize)
-    requires { ⌜ RowReady shape (length (now plane)) y × (length (now to) ≡ shape .width) ⌝ }
-    ensures { λ _. ⌜ now (to .exit) ≡ listed (shape .width) (λ x. keptOf (now (plane .entry)) shape x y) ⌝ }
+fn keep_row(to: &mut [u8], plane: &[u8], grid: Grid, y: usize)
+    requires { ⌜ RowReady (gridShape grid) (length (now plane)) y × (length (now to) ≡ grid .width) ⌝ }
+    ensures { λ _. ⌜ now (to .exit) ≡ listed (grid .width) (λ x. keptOf (now (plane .entry)) (gridShape grid) x y) ⌝ }
 {
-    if has_byte_rows(shape) {
-        keep_bytes(to, byte_row(plane, shape, y));
+    if grid.depth <= 8 {
+        keep_bytes(to, byte_row(plane, grid, y));
         return;
     }
-    let layout = shape.layout;
-    if plane::is_alone(layout) {
-        let start = y * (shape.stride as usize);
-        let bytes = (shape.width as usize) * 2;
-        keep_pairs(
-            to,
-            part_at(plane, start, bytes),
-            down_of(layout, shape.depth),
-        );
-        return;
-    }
-    keep_shared(to, plane, shape, y as u16);
+    let start = y * (grid.stride as usize);
+    let bytes = (grid.width as usize) * 2;
+    let right = grid.depth as u16 - 8;
+    keep_pairs(to, part_at(plane, start, bytes), right);
 }
 
 // ---- blocks
@@ -213,25 +165,25 @@ fn add_row(counters: &mut [u32; 512], new: &[u8], old: &[u8])
     }
 }
 
-// The same of row y of a picture and of the kept frame. Rows that are no bytes are kept in `row` first.
+// The same of row y of a picture and of the kept frame. Rows of two bytes a sample are kept in `row` first.
 fn add_row_of(
     counters: &mut [u32; 512],
     row: &mut [u8],
     plane: &[u8],
-    shape: Shape,
+    grid: Grid,
     store: &[u8],
     y: usize,
 )
-    requires { ⌜ Ready shape (length (now plane)) (length (now store)) × (y < shape .height) × (length (now row) ≡ shape .width) × Counters (now counters) (shape .width) ⌝ }
-    ensures { λ _. ⌜ (length (now (counters .exit)) ≡ 512) × Added (now (counters .entry)) (now (counters .exit)) (differingRow (now (plane .entry)) shape (now (store .entry)) y) (blocksAcross (shape .width)) ⌝ }
+    requires { ⌜ Ready (gridShape grid) (length (now plane)) (length (now store)) × (y < grid .height) × (length (now row) ≡ grid .width) × Counters (now counters) (grid .width) ⌝ }
+    ensures { λ _. ⌜ (length (now (counters .exit)) ≡ 512) × Added (now (counters .entry)) (now (counters .exit)) (differingRow (now (plane .entry)) (gridShape grid) (now (store .entry)) y) (blocksAcross (grid .width)) ⌝ }
 {
-    let width = shape.width as usize;
+    let width = grid.width as usize;
     let old = part_at(store, y * width, width);
-    if has_byte_rows(shape) {
-        add_row(counters, byte_row(plane, shape, y), old);
+    if grid.depth <= 8 {
+        add_row(counters, byte_row(plane, grid, y), old);
         return;
     }
-    keep_row(row, plane, shape, y);
+    keep_row(row, plane, grid, y);
     add_row(counters, row, old);
 }
 
@@ -267,43 +219,43 @@ fn busy_in(counters: &[u32; 512], width: usize, rows: usize) -> u64
 fn band(
     row: &mut [u8],
     plane: &[u8],
-    shape: Shape,
+    grid: Grid,
     store: &[u8],
     first: usize,
     top: usize,
     rows: usize,
 ) -> u64
-    requires { ⌜ Ready shape (length (now plane)) (length (now store)) × (first ≤ 1) × (top + rows ≤ rowsOf (shape .height) first) × (rows ≤ 8) × (length (now row) ≡ shape .width) ⌝ }
-    ensures { λ r. ⌜ (r ≡ busyBy (shape .width) rows (λ b. sumOver rows (λ i. bandRow (now (plane .entry)) shape (now (store .entry)) first top i b))) × (r ≤ 512) ⌝ }
+    requires { ⌜ Ready (gridShape grid) (length (now plane)) (length (now store)) × (first ≤ 1) × (top + rows ≤ rowsOf (grid .height) first) × (rows ≤ 8) × (length (now row) ≡ grid .width) ⌝ }
+    ensures { λ r. ⌜ (r ≡ busyBy (grid .width) rows (λ b. sumOver rows (λ i. bandRow (now (plane .entry)) (gridShape grid) (now (store .entry)) first top i b))) × (r ≤ 512) ⌝ }
 {
     let mut counters = [0u32; 512];
     let mut i = 0;
     while i < rows {
         let y = 2 * (top + i) + first;
-        add_row_of(&mut counters, row, plane, shape, store, y);
+        add_row_of(&mut counters, row, plane, grid, store, y);
         i += 1;
     }
-    busy_in(&counters, shape.width as usize, rows)
+    busy_in(&counters, grid.width as usize, rows)
 }
 
 // The busy blocks of a field, whose rows are every second one from `first` on.
 fn busy_rows(
     row: &mut [u8],
     plane: &[u8],
-    shape: Shape,
+    grid: Grid,
     store: &[u8],
     first: usize,
     rows: usize,
 ) -> u64
-    requires { ⌜ Ready shape (length (now plane)) (length (now store)) × (first ≤ 1) × (rows ≡ rowsOf (shape .height) first) × (length (now row) ≡ shape .width) ⌝ }
-    ensures { λ r. ⌜ r ≡ busyField (now (plane .entry)) shape (now (store .entry)) first ⌝ }
+    requires { ⌜ Ready (gridShape grid) (length (now plane)) (length (now store)) × (first ≤ 1) × (rows ≡ rowsOf (grid .height) first) × (length (now row) ≡ grid .width) ⌝ }
+    ensures { λ r. ⌜ r ≡ busyField (now (plane .entry)) (gridShape grid) (now (store .entry)) first ⌝ }
 {
     let n = bands(rows);
     let mut busy: u64 = 0;
     let mut k = 0;
     while k < n {
         let top = 8 * k;
-        busy += band(row, plane, shape, store, first, top, lesser(8, rows - top));
+        busy += band(row, plane, grid, store, first, top, lesser(8, rows - top));
         k += 1;
     }
     busy
@@ -324,51 +276,53 @@ fn total_of(width: u16, rows: usize) -> u64
 }
 
 // The buffer for rows that are kept first is made once.
-fn counts_of(plane: &[u8], shape: Shape, store: &[u8], first: usize) -> Counts
-    requires { ⌜ Ready shape (length (now plane)) (length (now store)) × (first ≤ 1) ⌝ }
-    ensures { λ r. ⌜ r ≡ countsOf (now (plane .entry)) shape (now (store .entry)) first ⌝ }
+fn counts_of(plane: &[u8], grid: Grid, store: &[u8], first: usize) -> Counts
+    requires { ⌜ Ready (gridShape grid) (length (now plane)) (length (now store)) × (first ≤ 1) ⌝ }
+    ensures { λ r. ⌜ r ≡ countsOf (now (plane .entry)) (gridShape grid) (now (store .entry)) first ⌝ }
 {
     let mut row = [0u8; 8192];
-    let width = shape.width as usize;
-    let rows = rows_of(shape.height, first);
-    let busy = busy_rows(&mut row[0..width], plane, shape, store, first, rows);
+    let width = grid.width as usize;
+    let rows = rows_of(grid.height, first);
+    let busy = busy_rows(&mut row[0..width], plane, grid, store, first, rows);
     Counts {
         busy: busy,
-        total: total_of(shape.width, rows),
+        total: total_of(grid.width, rows),
     }
 }
 
 // ---- refusals
 
 // What a store needs to keep a frame.
-fn frame_bytes(shape: Shape) -> usize
-    ensures { λ r. ⌜ r ≡ shape .height * shape .width ⌝ }
+fn frame_bytes(grid: Grid) -> usize
+    ensures { λ r. ⌜ r ≡ grid .height * grid .width ⌝ }
 {
-    (shape.height as usize) * (shape.width as usize)
+    (grid.height as usize) * (grid.width as usize)
 }
 
-fn count_no(shape: Shape, bytes: usize, room: usize) -> u8
-    ensures { λ r. ⌜ r ≡ countNo shape bytes room ⌝ }
+fn count_no(grid: Grid, bytes: usize, room: usize) -> u8
+    ensures { λ r. ⌜ r ≡ countNo (gridShape grid) bytes room ⌝ }
 {
+    let shape = plane::shape_of(grid);
     plane::refusal::lowest_of(
         true,
         plane::good_shape(shape),
         true,
-        (plane::plane_bytes(shape) <= bytes) & (frame_bytes(shape) <= room),
+        (plane::plane_bytes(shape) <= bytes) & (frame_bytes(grid) <= room),
         true,
         true,
     )
 }
 
-fn keep_no(shape: Shape, bytes: usize, room: usize) -> u8
-    ensures { λ r. ⌜ r ≡ keepNo shape bytes room ⌝ }
+fn keep_no(grid: Grid, bytes: usize, room: usize) -> u8
+    ensures { λ r. ⌜ r ≡ keepNo (gridShape grid) bytes room ⌝ }
 {
+    let shape = plane::shape_of(grid);
     plane::refusal::lowest_of(
         true,
         plane::good_shape(shape),
         true,
         plane::plane_bytes(shape) <= bytes,
-        frame_bytes(shape) <= room,
+        frame_bytes(grid) <= room,
         true,
     )
 }
@@ -376,41 +330,42 @@ fn keep_no(shape: Shape, bytes: usize, room: usize) -> u8
 // ---- the calls
 
 // The counts of the field of a parity of a picture, against the same parity of the frame of that size
-// which the store keeps.
-pub fn count(plane: &[u8], shape: plane::Shape, store: &[u8], parity: field::Parity) -> Counted
-    ensures { λ r. ⌜ (countedNo r ≡ countNo shape (length (now (plane .entry))) (length (now (store .entry)))) × (countedValues r ≡ whenDone (countNo shape (length (now (plane .entry))) (length (now (store .entry)))) (countsOf (now (plane .entry)) shape (now (store .entry)) (firstRowOf parity))) ⌝ }
+// which the store keeps. Words are read as they stand: a biplanar luma deeper than 8 bits goes through
+// readback first.
+pub fn count(plane: &[u8], grid: plane::Grid, store: &[u8], parity: field::Parity) -> Counted
+    ensures { λ r. ⌜ (countedNo r ≡ countNo (gridShape grid) (length (now (plane .entry))) (length (now (store .entry)))) × (countedValues r ≡ whenDone (countNo (gridShape grid) (length (now (plane .entry))) (length (now (store .entry)))) (countsOf (now (plane .entry)) (gridShape grid) (now (store .entry)) (firstRowOf parity))) ⌝ }
 {
-    let no = count_no(shape, plane.len(), store.len());
+    let no = count_no(grid, plane.len(), store.len());
     if no == 0 {
-        Counted::Value(counts_of(plane, shape, store, parity.first_row() as usize))
+        Counted::Value(counts_of(plane, grid, store, parity.first_row() as usize))
     } else {
         Counted::Refused(no)
     }
 }
 
 // Each row of a picture, kept behind the one above it.
-fn keep_rows(store: &mut [u8], plane: &[u8], shape: Shape)
-    requires { ⌜ Ready shape (length (now plane)) (length (now store)) ⌝ }
-    ensures { λ _. ⌜ now (store .exit) ≡ over (keptFrame (now (plane .entry)) shape) (now (store .entry)) ⌝ }
+fn keep_rows(store: &mut [u8], plane: &[u8], grid: Grid)
+    requires { ⌜ Ready (gridShape grid) (length (now plane)) (length (now store)) ⌝ }
+    ensures { λ _. ⌜ now (store .exit) ≡ over (keptFrame (now (plane .entry)) (gridShape grid)) (now (store .entry)) ⌝ }
 {
-    let width = shape.width as usize;
-    let height = shape.height as usize;
+    let width = grid.width as usize;
+    let height = grid.height as usize;
     let mut y = 0;
     while y < height {
         let start = y * width;
-        keep_row(&mut store[start..start + width], plane, shape, y);
+        keep_row(&mut store[start..start + width], plane, grid, y);
         y += 1;
     }
 }
 
-// Keeps a picture as 8 bits at the store's front.
-pub fn keep(store: &mut [u8], plane: &[u8], shape: plane::Shape) -> u8
-    ensures { λ r. ⌜ r ≡ keepNo shape (length (now (plane .entry))) (length (now (store .entry))) ⌝ }
-    ensures { λ _. ⌜ now (store .exit) ≡ written (keepNo shape (length (now (plane .entry))) (length (now (store .entry)))) (over (keptFrame (now (plane .entry)) shape) (now (store .entry))) (now (store .entry)) ⌝ }
+// Keeps a picture, its words read as they stand, as 8 bits at the store's front.
+pub fn keep(store: &mut [u8], plane: &[u8], grid: plane::Grid) -> u8
+    ensures { λ r. ⌜ r ≡ keepNo (gridShape grid) (length (now (plane .entry))) (length (now (store .entry))) ⌝ }
+    ensures { λ _. ⌜ now (store .exit) ≡ written (keepNo (gridShape grid) (length (now (plane .entry))) (length (now (store .entry)))) (over (keptFrame (now (plane .entry)) (gridShape grid)) (now (store .entry))) (now (store .entry)) ⌝ }
 {
-    let no = keep_no(shape, plane.len(), store.len());
+    let no = keep_no(grid, plane.len(), store.len());
     if no == 0 {
-        keep_rows(store, plane, shape);
+        keep_rows(store, plane, grid);
         return no;
     }
     no

@@ -11,8 +11,8 @@ use lib.ListN.{getD}
 use lib.Seq.{getD-drop}
 use Rattle.laws.specs.Refusal.{lowest}
 use Rattle.laws.proofs.Refusal.{first-passes, rest-passes}
-use Rattle.plane.specs.Plane.{goodShape, planeBytes, codeOf}
-use Rattle.comb.specs.Comb.{combOf, unshifted, planeComb, greenAt, rgbaComb}
+use Rattle.plane.specs.Plane.{goodShape, planeBytes, unshifted, codeOf}
+use Rattle.comb.specs.Comb.{combOf, planeComb, greenAt, rgbaComb}
 use Rattle.comb.specs.Answer.{combNo, rgbaNo}
 use Rattle.comb.specs.Rows.{kindOf, sizeOf, codesOf}
 use Rattle.comb.specs.declared.Kind.{Kind}

@@ -4,10 +4,9 @@ use mathlib.Core.Bool.{Bool, _&&_}
 use mathlib.Core.List.{List, [], _∷_}
 use lib.Dec.{leb}
 use Rattle.laws.specs.Refusal.{lowest}
-use Rattle.plane.specs.Plane.{goodShape, planeBytes}
+use Rattle.plane.specs.Plane.{goodShape, planeBytes, unshifted}
 use Rattle.comb.specs.declared.Combed.{Combed}
 use Rattle.comb.specs.declared.Combed.the-variants.{Value, Refused}
-use Rattle.comb.specs.Comb.{unshifted}
 
 -- An answer by its cases: a value is number 0 and that value, a refusal its number and no value.
 abbrev pub combedNo : Combed → ℕ

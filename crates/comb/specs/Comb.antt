@@ -5,9 +5,7 @@ use Prim.Native.Nat.{ℕ, _+_, _-_, _*_}
 use mathlib.Core.List.{List}
 use lib.ListN.{getD}
 use Rattle.laws.specs.Sums.{sumOver, apart}
-use Rattle.plane.specs.declared.Shape.{Shape}
-use Rattle.plane.specs.declared.Layout.the-variants.{Planar}
-use Rattle.plane.specs.Plane.{codeOf}
+use Rattle.plane.specs.Plane.{unshifted, codeOf}
 
 -- |2 * here - up - down| in column x, where `here` is row y + 1
 abbrev pub bendOf : (ℕ → ℕ → ℕ) → ℕ → ℕ → ℕ
@@ -16,10 +14,6 @@ bendOf code x y = apart (2 * code x (y + 1)) (code x y + code x (y + 2))
 -- over every column and every inner row: one that has a row above it and one below
 unfoldable pub combOf : (ℕ → ℕ → ℕ) → ℕ → ℕ → ℕ
 combOf code width height = sumOver (height - 2) (λ y. sumOver width (λ x. bendOf code x y))
-
--- the shape whose codes are unshifted
-abbrev pub unshifted : ℕ → ℕ → ℕ → ℕ → Shape
-unshifted width height depth stride = record { width = width; height = height; depth = depth; stride = stride; layout = Planar }
 
 unfoldable pub planeComb : List ℕ → ℕ → ℕ → ℕ → ℕ → ℕ
 planeComb bytes width height depth stride = combOf (codeOf bytes (unshifted width height depth stride)) width height

@@ -47,5 +47,11 @@ state-passes true false state h = absurd (not-zero 4 tt h)
 state-passes true true false h = absurd (not-zero 6 tt h)
 state-passes true true true h = refl
 
+pub first-step-good : (named good state : Bool) → firstStep named good state ≡ 0 → good ≡ true
+unfolding lowest
+first-step-good false good state h = absurd (not-zero 3 tt h)
+first-step-good true false state h = absurd (not-zero 4 tt h)
+first-step-good true true state h = refl
+
 pub state-room : (named good : Bool) (room : ℕ) → firstStep named good (leb 96 room) ≡ 0 → 96 ≤ room
 state-room named good room h = leb-true 96 room (state-passes named good (leb 96 room) h)

@@ -24,7 +24,7 @@ use Rattle.packed.proofs.Claims.{packed-size, reads-back}
 use Rattle.telecine.specs.declared.Detector.{Detector}
 use Rattle.telecine.specs.Detector.{seenMeasured, measuredNo, seenPicture, keptAs, pushNo}
 use Rattle.filmdesk.specs.Kept.{numberIf, chosenNumber, chosenNamed, detectorNumbers, detectorBytes, detectorIn, keeping}
-use Rattle.filmdesk.specs.Claims.{Sized, FoundAgain, AlwaysSized, FreshSized, ResetSized, MeasuredSized, PushSized, BusySays, PredictSays, MeasuredSays, PushSays}
+use Rattle.filmdesk.specs.Claims.{Sized, FoundAgain, AlwaysSized, FreshSized, ResetSized, MeasuredSized, PushSized, BusySays, NewSays, StateSays, PredictSays, MeasuredSays, PushSays}
 use Rattle.filmdesk.proofs.General.{digits-below}
 use Rattle.filmdesk.proofs.Kept.{found-ring}
 use Rattle.filmdesk.proofs.Sized.{advanced-sized, fresh-with, written-sized, few-taken}
@@ -33,6 +33,14 @@ use Rattle.filmdesk.proofs.Sized.{advanced-sized, fresh-with, written-s
 pub busy-says : BusySays
 unfolding rising
 busy-says n bytes room parity = lowest-says _ tt
+
+pub new-says : NewSays
+unfolding rising
+new-says state = lowest-says _ tt
+
+pub state-says : StateSays
+unfolding rising
+state-says state = lowest-says _ tt
 
 pub predict-says : PredictSays
 unfolding rising

@@ -2,6 +2,7 @@
 pub mod General
 pub mod Kept
 pub mod Calls
+pub mod Grids
 pub mod Sized
 pub mod Claims
 pub mod Holds

@@ -16,9 +16,9 @@ use Rattle.telecine.specs.declared.Measured.{Measured}
 use Rattle.telecine.specs.Detector.{freshDetector, resetOf, measuredDetector, pushDetector}
 use Rattle.telecine.specs.History.{framesOf, runOf, refusalTests}
 use Rattle.telecine.specs.History as calls
-use Rattle.desk.specs.declared.planes.PlaneNumbers.{PlaneNumbers}
+use Rattle.filmdesk.specs.declared.GridNumbers.{GridNumbers}
 use Rattle.filmdesk.specs.Kept.{stateBytes, detectorIn, keeping}
-use Rattle.filmdesk.specs.Film.{busyTests, stateNo, predictStateTests, predictStateNo, measuredStateTests, pushStateTests}
+use Rattle.filmdesk.specs.Film.{busyTests, newTests, stateTests, stateNo, predictStateTests, predictStateNo, measuredStateTests, pushStateTests}
 use Rattle.filmdesk.specs.Left.{lockedByte, foretoldByte}
 use Rattle.filmdesk.specs.History.{Given, Call, Lent, numberIn, byteIn, numberOf, next, after, named, frameOf, taken}
 
@@ -56,9 +56,17 @@ MeasuredSized = (d : Detector) (first : Parity) (m : Measured) → Sized d → S
 abbrev pub PushSized : Type 0
 PushSized = (d : Detector) (store plane : List ℕ) (s : Shape) (first : Parity) → Sized d → Sized (pushDetector d store plane s first)
 
--- The number is 0 exactly when no test fails, and n exactly when a test of n fails and none of a lower number does.
+-- The number is 0 exactly when no test fails, and n exactly when a test of n fails and none of a lower number does. Of `cadences` crate
+-- `entry` has the claim.
 abbrev pub BusySays : Type 0
-BusySays = (n : PlaneNumbers) (bytes room parity : ℕ) → Says (busyTests n bytes room parity)
+BusySays = (n : GridNumbers) (bytes room parity : ℕ) → Says (busyTests n bytes room parity)
+
+abbrev pub NewSays : Type 0
+NewSays = (state : ℕ) → Says (newTests state)
+
+-- of `reset` and of `locked`
+abbrev pub StateSays : Type 0
+StateSays = (state : ℕ) → Says (stateTests state)
 
 abbrev pub PredictSays : Type 0
 PredictSays = (state ahead : ℕ) → Says (predictStateTests state ahead)
@@ -67,7 +75,7 @@ abbrev pub MeasuredSays : Type 0
 MeasuredSays = (parity present state : ℕ) (d : Detector) → Says (measuredStateTests parity present state d)
 
 abbrev pub PushSays : Type 0
-PushSays = (n : PlaneNumbers) (parity bytes room state : ℕ) (d : Detector) → Says (pushStateTests n parity bytes room state d)
+PushSays = (n : GridNumbers) (parity bytes room state : ℕ) (d : Detector) → Says (pushStateTests n parity bytes room state d)
 
 -- ---- over any calls
 

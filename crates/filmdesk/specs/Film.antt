@@ -5,29 +5,39 @@ use mathlib.Core.Bool.{Bool, cond, _&&_}
 use mathlib.Core.List.{List, [], _∷_}
 use lib.Dec.{leb, eqb}
 use Rattle.laws.specs.Refusal.{lowest}
-use Rattle.plane.specs.Plane.{goodShape, planeBytes}
+use Rattle.plane.specs.declared.Shape.{Shape}
+use Rattle.plane.specs.Plane.{goodShape, planeBytes, unshifted}
 use Rattle.block.specs.Answer.{countTests}
 use Rattle.telecine.specs.declared.Measured.{Measured}
 use Rattle.telecine.specs.declared.Measured.the-variants as measured
 use Rattle.telecine.specs.declared.Detector.{Detector}
 use Rattle.telecine.specs.Detector.{keptBytes, measuredTests}
-use Rattle.desk.specs.declared.planes.PlaneNumbers.{PlaneNumbers}
-use Rattle.desk.specs.Planes.{shapeNamed}
+use Rattle.filmdesk.specs.declared.GridNumbers.{GridNumbers}
 use Rattle.filmdesk.specs.Kept.{stateBytes}
 
--- 3: the layout's code or the parity names nothing; then as for `block::count`
-abbrev pub busyTests : PlaneNumbers → ℕ → ℕ → ℕ → List (ℕ × Bool)
-busyTests n bytes room parity = (3, leb (n .layout) 3 && leb parity 1) ∷ countTests (shapeNamed n) bytes room
+-- the shape that the host's numbers give, as they are: codes are read as they stand
+abbrev pub gridNamed : GridNumbers → Shape
+gridNamed n = unshifted (n .width) (n .height) (n .depth) (n .stride)
 
-abbrev pub busyNo : PlaneNumbers → ℕ → ℕ → ℕ → ℕ
+-- 3: the parity names nothing; then as for `block::count`
+abbrev pub busyTests : GridNumbers → ℕ → ℕ → ℕ → List (ℕ × Bool)
+busyTests n bytes room parity = (3, leb parity 1) ∷ countTests (gridNamed n) bytes room
+
+abbrev pub busyNo : GridNumbers → ℕ → ℕ → ℕ → ℕ
 busyNo n bytes room parity = lowest (busyTests n bytes room parity)
 
+abbrev pub newTests : ℕ → List (ℕ × Bool)
+newTests state = (7, leb stateBytes state) ∷ []
+
 abbrev pub newNo : ℕ → ℕ
-newNo state = lowest ((7, leb stateBytes state) ∷ [])
+newNo state = lowest (newTests state)
 
 -- of a call that reads the state and refuses nothing else
+abbrev pub stateTests : ℕ → List (ℕ × Bool)
+stateTests state = (6, leb stateBytes state) ∷ []
+
 abbrev pub stateNo : ℕ → ℕ
-stateNo state = lowest ((6, leb stateBytes state) ∷ [])
+stateNo state = lowest (stateTests state)
 
 abbrev pub predictStateTests : ℕ → ℕ → List (ℕ × Bool)
 predictStateTests state ahead = (6, leb stateBytes state) ∷ (10, leb ahead 1000000) ∷ []
@@ -47,14 +57,14 @@ measuredStateTests parity present state d = (3, leb parity 1 && leb present 1) �
 abbrev pub measuredStateNo : ℕ → ℕ → ℕ → Detector → ℕ
 measuredStateNo parity present state d = lowest (measuredStateTests parity present state d)
 
--- 3: the layout's code or the parity names nothing. 6: also where the state is too short.
-abbrev pub pushStateTests : PlaneNumbers → ℕ → ℕ → ℕ → ℕ → Detector → List (ℕ × Bool)
+-- 3: the parity names nothing. 6: also where the state is too short.
+abbrev pub pushStateTests : GridNumbers → ℕ → ℕ → ℕ → ℕ → Detector → List (ℕ × Bool)
 pushStateTests n parity bytes room state d =
-    (3, leb (n .layout) 3 && leb parity 1)
-    ∷ (4, goodShape (shapeNamed n))
-    ∷ (6, leb stateBytes state && leb (planeBytes (shapeNamed n)) bytes && leb (keptBytes (d .kept)) room)
-    ∷ (7, leb (shapeNamed n .height * shapeNamed n .width) room)
+    (3, leb parity 1)
+    ∷ (4, goodShape (gridNamed n))
+    ∷ (6, leb stateBytes state && leb (planeBytes (gridNamed n)) bytes && leb (keptBytes (d .kept)) room)
+    ∷ (7, leb (n .height * n .width) room)
     ∷ measuredTests d
 
-abbrev pub pushStateNo : PlaneNumbers → ℕ → ℕ → ℕ → ℕ → Detector → ℕ
+abbrev pub pushStateNo : GridNumbers → ℕ → ℕ → ℕ → ℕ → Detector → ℕ
 pushStateNo n parity bytes room state d = lowest (pushStateTests n parity bytes room state d)

@@ -8,11 +8,10 @@ use lib.Dec.{leb, eqb}
 use lib.ListN.{length}
 use Rattle.field.specs.declared.Parity.{Parity}
 use Rattle.field.specs.declared.Parity.the-variants.{Top, Bottom}
-use Rattle.telecine.specs.declared.Measured.{Measured}
+use Rattle.plane.specs.Plane.{unshifted}
 use Rattle.telecine.specs.declared.Measured.the-variants as measured
 use Rattle.telecine.specs.History as calls
-use Rattle.desk.specs.declared.planes.PlaneNumbers.{PlaneNumbers}
-use Rattle.desk.specs.Planes.{shapeNamed}
+use Rattle.filmdesk.specs.declared.GridNumbers.{GridNumbers}
 use Rattle.filmdesk.specs.Kept.{detectorIn}
 use Rattle.filmdesk.specs.Film.{newNo, stateNo, measuredNamed, measuredStateNo, pushStateNo}
 use Rattle.filmdesk.specs.Left.{newState, resetState, measuredState, measuredByte, pushedState, pushedStore, pushedByte}
@@ -20,7 +19,7 @@ use Rattle.filmdesk.specs.Left.{newState, resetState, measuredState, mea
 -- what the host gives with a frame
 pub data Given : Type 0 where
   -- to `desk_detector_push`: the byte of the parity, the picture's bytes, and its numbers
-  picture : ℕ → List ℕ → PlaneNumbers → Given
+  picture : ℕ → List ℕ → GridNumbers → Given
   -- to `desk_detector_push_measured`: the bytes of the parity and of `present`; busy and all blocks of the leading field, then of the trailing
   counts : ℕ → ℕ → ℕ → ℕ → ℕ → ℕ → Given
 
@@ -78,12 +77,12 @@ abbrev pub parityGiven : ℕ → Parity
 parityGiven byte = cond (eqb byte 0) Top Bottom
 
 abbrev pub named : Given → Bool
-named (picture parity plane n) = leb (n .layout) 3 && leb parity 1
+named (picture parity plane n) = leb parity 1
 named (counts parity present busy total other-busy other-total) = leb parity 1 && leb present 1
 
 -- the frame that was given
 abbrev pub frameOf : Given → calls.Push
-frameOf (picture parity plane n) = calls.picture plane (shapeNamed n) (parityGiven parity)
+frameOf (picture parity plane n) = calls.picture plane (unshifted (n .width) (n .height) (n .depth) (n .stride)) (parityGiven parity)
 frameOf (counts parity present busy total other-busy other-total) =
     calls.measured (parityGiven parity)
     (cond (eqb present 0) measured.Absent (measured.Counts (record { busy = busy; total = total }) (record { busy = other-busy; total = other-total })))

@@ -7,9 +7,9 @@ use Rattle.field.specs.Field.{parityNamed, cadenceNumber}
 use Rattle.pulldown.specs.Lock.{lockedOf, predictCadence}
 use Rattle.telecine.specs.declared.Measured.{Measured}
 use Rattle.telecine.specs.Detector.{freshDetector, resetOf, measuredDetector, measuredCadence, pushDetector, pushCadence, pushStore}
-use Rattle.desk.specs.declared.planes.PlaneNumbers.{PlaneNumbers}
-use Rattle.desk.specs.Planes.{shapeNamed}
+use Rattle.filmdesk.specs.declared.GridNumbers.{GridNumbers}
 use Rattle.filmdesk.specs.Kept.{numberIf, detectorIn, keeping}
+use Rattle.filmdesk.specs.Film.{gridNamed}
 
 -- ---- new, reset, locked, predict
 abbrev pub newState : ℕ → List ℕ → List ℕ
@@ -32,13 +32,13 @@ abbrev pub measuredByte : ℕ → List ℕ → ℕ → Measured → ℕ → ℕ
 measuredByte number state parity m byte = written number (cadenceNumber (measuredCadence (detectorIn state) (parityNamed parity) m)) byte
 
 -- ---- push
-abbrev pub pushedState : ℕ → List ℕ → List ℕ → List ℕ → PlaneNumbers → ℕ → List ℕ
+abbrev pub pushedState : ℕ → List ℕ → List ℕ → List ℕ → GridNumbers → ℕ → List ℕ
 pushedState number state store plane n parity =
-    written number (keeping (pushDetector (detectorIn state) store plane (shapeNamed n) (parityNamed parity)) state) state
+    written number (keeping (pushDetector (detectorIn state) store plane (gridNamed n) (parityNamed parity)) state) state
 
-abbrev pub pushedStore : ℕ → List ℕ → List ℕ → List ℕ → PlaneNumbers → List ℕ
-pushedStore number state store plane n = written number (pushStore (detectorIn state) store plane (shapeNamed n)) store
+abbrev pub pushedStore : ℕ → List ℕ → List ℕ → List ℕ → GridNumbers → List ℕ
+pushedStore number state store plane n = written number (pushStore (detectorIn state) store plane (gridNamed n)) store
 
-abbrev pub pushedByte : ℕ → List ℕ → List ℕ → List ℕ → PlaneNumbers → ℕ → ℕ → ℕ
+abbrev pub pushedByte : ℕ → List ℕ → List ℕ → List ℕ → GridNumbers → ℕ → ℕ → ℕ
 pushedByte number state store plane n parity byte =
-    written number (cadenceNumber (pushCadence (detectorIn state) store plane (shapeNamed n) (parityNamed parity))) byte
+    written number (cadenceNumber (pushCadence (detectorIn state) store plane (gridNamed n) (parityNamed parity))) byte

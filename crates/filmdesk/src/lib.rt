@@ -5,9 +5,9 @@
 use block::Counted;
 use block::Counts;
 use desk::planes;
-use desk::planes::PlaneNumbers;
 use field::Chosen;
 use field::Parity;
+use plane::Grid;
 use plane::refusal;
 use pulldown::Answer;
 use pulldown::Course;
@@ -23,19 +23,42 @@ ghost use Rattle.laws.specs.Refusal.{whenDone, written};
 ghost use Rattle.laws.specs.Rows.{over};
 ghost use Rattle.field.specs.Field.{firstRowOf, parityNamed, cadenceNumber};
 ghost use Rattle.block.specs.Answer.{countsOf};
-ghost use Rattle.pulldown.specs.Lock.{answerNo, answerValues, lockWith, lockedOf, predictCadence};
+ghost use Rattle.pulldown.specs.Lock.{answerNo, answerValues, lockWith};
 ghost use Rattle.telecine.specs.Detector.{nothingKept, freshDetector, resetOf, measuredNo, measuredDetector, measuredCadence, pushDetector, pushCadence, pushStore};
 ghost use Rattle.entry.specs.Entry.{cadencesNo, cadencesOf};
-ghost use Rattle.desk.specs.Planes.{shapeNamed};
 ghost use Rattle.filmdesk.specs.Kept.{numberIf, detectorIn, detectorNumbers, keeping, chosenNumber, chosenNamed};
-ghost use Rattle.filmdesk.specs.Inner.{courseOf, detectorWith};
-ghost use Rattle.filmdesk.specs.Film.{busyNo, newNo, stateNo, predictStateNo, measuredNamed, measuredStateNo, pushStateNo};
-ghost use Rattle.filmdesk.specs.Left.{newState, resetState, lockedByte, foretoldByte, measuredState, measuredByte};
+ghost use Rattle.filmdesk.specs.Inner.{courseOf, detectorWith, gridOf};
+ghost use Rattle.filmdesk.specs.Film.{gridNamed, busyNo, newNo, stateNo, predictStateNo, measuredNamed, measuredStateNo, pushStateNo};
+ghost use Rattle.filmdesk.specs.Left.{newState, resetState, lockedByte, foretoldByte, measuredState, measuredByte, pushedState, pushedStore, pushedByte};
 
 const STATE_BYTES: usize = 96;
 
 // Where the ring stands in it, behind the numbers; the phase is the last byte.
 const RING: usize = 80;
+
+// A picture's shape as the host gives it: sizes in samples, the stride in bytes. The numbers are wider
+// than a grid's own, so that none can wrap into the bounds.
+#[repr(C)]
+pub struct GridNumbers {
+    pub width: u32,
+    pub height: u32,
+    pub depth: u32,
+    pub stride: u32,
+}
+
+fn grid_of(numbers: GridNumbers) -> Grid
+    ensures { λ r. ⌜ r ≡ gridOf numbers ⌝ }
+{
+    let width = planes::at_most_65535(numbers.width);
+    let height = planes::at_most_65535(numbers.height);
+    let depth = planes::at_most_255(numbers.depth);
+    Grid {
+        width: width,
+        height: height,
+        depth: depth,
+        stride: numbers.stride,
+    }
+}
 
 // ---- a detector in the state's bytes
 
@@ -298,30 +321,25 @@ fn measured_named(present: u8, busy: u64, total: u64, other_busy: u64, other_tot
 // ---- the calls
 
 // Busy blocks and all blocks of a field, 0 top or 1 bottom, against the same field of the frame that
-// `store` keeps as 8-bit samples, row by row. Numbers 3, 4 and 6.
+// `store` keeps as 8-bit samples, row by row. The plane's words are read as they stand: a biplanar luma
+// deeper than 8 bits goes through readback first. Numbers 3, 4 and 6.
 #[no_mangle]
 pub extern "C" fn desk_busy(
     plane: &[u8],
-    shape: PlaneNumbers,
+    grid: GridNumbers,
     store: &[u8],
     parity: u8,
     busy: &mut u64,
     total: &mut u64,
 ) -> u8
-    ensures { λ r. ⌜ r ≡ busyNo shape (length (now (plane .entry))) (length (now (store .entry))) parity ⌝ }
-    ensures { λ r. ⌜ now (busy .exit) ≡ written r (countsOf (now (plane .entry)) (shapeNamed shape) (now (store .entry)) (firstRowOf (parityNamed parity)) .busy) (now (busy .entry)) ⌝ }
-    ensures { λ r. ⌜ now (total .exit) ≡ written r (countsOf (now (plane .entry)) (shapeNamed shape) (now (store .entry)) (firstRowOf (parityNamed parity)) .total) (now (total .entry)) ⌝ }
+    ensures { λ r. ⌜ r ≡ busyNo grid (length (now (plane .entry))) (length (now (store .entry))) parity ⌝ }
+    ensures { λ r. ⌜ now (busy .exit) ≡ written r (countsOf (now (plane .entry)) (gridNamed grid) (now (store .entry)) (firstRowOf (parityNamed parity)) .busy) (now (busy .entry)) ⌝ }
+    ensures { λ r. ⌜ now (total .exit) ≡ written r (countsOf (now (plane .entry)) (gridNamed grid) (now (store .entry)) (firstRowOf (parityNamed parity)) .total) (now (total .entry)) ⌝ }
 {
-    let known = (shape.layout <= 3) & (parity <= 1);
-    if !known {
+    if 1 < parity {
         return refusal::OUTSIDE;
     }
-    match block::count(
-        plane,
-        planes::shape_named(shape),
-        store,
-        Parity::named(parity as u32),
-    ) {
+    match block::count(plane, grid_of(grid), store, Parity::named(parity as u32)) {
         Counted::Value(counts) => {
             *busy = counts.busy;
             *total = counts.total;
@@ -435,24 +453,25 @@ pub extern "C" fn desk_detector_push_measured(
 }
 
 // Takes a picture led by the field `parity`, compares it with the frame that the store keeps, and keeps
-// it there. Numbers 3, 4, 6, 7 and 9.
+// it there. The plane's words are read as they stand: a biplanar luma deeper than 8 bits goes through
+// readback first. Numbers 3, 4, 6, 7 and 9.
 #[no_mangle]
 pub extern "C" fn desk_detector_push(
     state: &mut [u8],
     parity: u8,
     plane: &[u8],
-    shape: PlaneNumbers,
+    grid: GridNumbers,
     store: &mut [u8],
     cadence: &mut u8,
 ) -> u8
-    ensures { λ r. ⌜ r ≡ pushStateNo shape parity (length (now (plane .entry))) (length (now (store .entry))) (length (now (state .entry))) (detectorIn (now (state .entry))) ⌝ }
-    ensures { λ r. ⌜ now (state .exit) ≡ written r (keeping (pushDetector (detectorIn (now (state .entry))) (now (store .entry)) (now (plane .entry)) (shapeNamed shape) (parityNamed parity)) (now (state .entry))) (now (state .entry)) ⌝ }
-    ensures { λ r. ⌜ now (store .exit) ≡ written r (pushStore (detectorIn (now (state .entry))) (now (store .entry)) (now (plane .entry)) (shapeNamed shape)) (now (store .entry)) ⌝ }
-    ensures { λ r. ⌜ now (cadence .exit) ≡ written r (cadenceNumber (pushCadence (detectorIn (now (state .entry))) (now (store .entry)) (now (plane .entry)) (shapeNamed shape) (parityNamed parity))) (now (cadence .entry)) ⌝ }
+    ensures { λ r. ⌜ r ≡ pushStateNo grid parity (length (now (plane .entry))) (length (now (store .entry))) (length (now (state .entry))) (detectorIn (now (state .entry))) ⌝ }
+    ensures { λ r. ⌜ now (state .exit) ≡ pushedState r (now (state .entry)) (now (store .entry)) (now (plane .entry)) grid parity ⌝ }
+    ensures { λ r. ⌜ now (store .exit) ≡ pushedStore r (now (state .entry)) (now (store .entry)) (now (plane .entry)) grid ⌝ }
+    ensures { λ r. ⌜ now (cadence .exit) ≡ pushedByte r (now (state .entry)) (now (store .entry)) (now (plane .entry)) grid parity (now (cadence .entry)) ⌝ }
 {
-    let named = (shape.layout <= 3) & (parity <= 1);
-    let picture = planes::shape_named(shape);
-    let good = plane::good_shape(picture);
+    let named = parity <= 1;
+    let picture = grid_of(grid);
+    let good = plane::good_shape(plane::shape_of(picture));
     let refused = refusal::lowest_of(named, good, true, STATE_BYTES <= state.len(), true, true);
     if refused != 0 {
         return refused;

@@ -8,6 +8,7 @@ use lib.IntN.{ℤ, pos}
 use lib.ListN.{getD}
 use lib.Ieee.{Float, binary32, div, ofInt}
 use Rattle.plane.specs.declared.Shape.{Shape}
+use Rattle.plane.specs.declared.Grid.{Grid}
 use Rattle.plane.specs.declared.Planes.{Planes}
 use Rattle.plane.specs.declared.Layout.{Layout}
 use Rattle.plane.specs.declared.Layout.the-variants.{Planar, Luma, First, Second}
@@ -51,6 +52,13 @@ goodShape s =
 -- A plane needs (height - 1) times stride plus one row.
 abbrev pub planeBytes : Shape → ℕ
 planeBytes s = (s .height - 1) * s .stride + rowBytes s
+
+-- the shape whose codes are unshifted
+abbrev pub unshifted : ℕ → ℕ → ℕ → ℕ → Shape
+unshifted width height depth stride = record { width = width; height = height; depth = depth; stride = stride; layout = Planar }
+
+abbrev pub gridShape : Grid → Shape
+gridShape g = unshifted (g .width) (g .height) (g .depth) (g .stride)
 
 -- ---- codes
 

@@ -16,7 +16,7 @@ ghost use lib.Ieee as Ieee;
 ghost use lib.Ieee.{binary32};
 ghost use Rattle.laws.specs.Refusal.{lowest, whenDone};
 ghost use Rattle.float.specs.Bounds.{Small};
-ghost use Rattle.plane.specs.Plane.{components, component, alone, sampleBytes, rowBytes, goodShape, planeBytes, startOf, storedAt, biplanar, shift, codeOf, fullCode, valueOf, agree, half, chromaAgrees, planarOf, biplanarOf};
+ghost use Rattle.plane.specs.Plane.{components, component, alone, sampleBytes, rowBytes, goodShape, planeBytes, gridShape, startOf, storedAt, biplanar, shift, codeOf, fullCode, valueOf, agree, half, chromaAgrees, planarOf, biplanarOf};
 ghost use Rattle.plane.specs.Coordinates.{inReach, inside, held, parityOf, biasOf, unbiased};
 ghost use Rattle.plane.specs.Answer.{sampledNo, sampledValues, codedNo, codedValues, readTests, codeNo, atNo};
 
@@ -38,6 +38,14 @@ pub struct Shape {
     pub depth: u8,
     pub stride: u32,
     pub layout: Layout,
+}
+
+// The shape of a plane whose codes are read as they stand, with nothing beside them.
+pub struct Grid {
+    pub width: u16,
+    pub height: u16,
+    pub depth: u8,
+    pub stride: u32,
 }
 
 // The three planes of a frame.
@@ -154,6 +162,18 @@ pub fn good_shape(s: Shape) -> bool
         s.stride,
         layout,
     )
+}
+
+pub fn shape_of(grid: Grid) -> Shape
+    ensures { λ r. ⌜ r ≡ gridShape grid ⌝ }
+{
+    Shape {
+        width: grid.width,
+        height: grid.height,
+        depth: grid.depth,
+        stride: grid.stride,
+        layout: Layout::Planar,
+    }
 }
 
 // y rows of a stride, and what stands before a sample in its own row.

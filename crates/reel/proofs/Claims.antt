@@ -10,6 +10,7 @@ use lib.ListN.{length, take, drop, replicate}
 use borrow.Author.Tests.{eqb-true}
 use Rattle.laws.specs.Refusal.{lowest}
 use Rattle.field.specs.declared.Cadence.{Cadence}
+use Rattle.plane.specs.Plane.{gridShape}
 use Rattle.pulldown.specs.Lock.{lockedOf}
 use Rattle.telecine.specs.Detector.{freshDetector}
 use Rattle.telecine.specs.History.{State, Push, picture, push, numberIn, cadenceIn, next}
@@ -76,8 +77,8 @@ pictures-say (suc n) p state t bytes sound some =
     let r = reelOf (Pictures (suc n)) p (state .detector) t in
     by-unit k (rw (some-left n)) (rw (some-left n, one-less n)) (rw (some-left n))
     (stored-unit k r (state .store) _ bytes z
-    (λ u rest. frame state t (picture u (p .shape) (p .first)) (λ after v. pictures n p after v rest))
-    (frame-says r (Pictures n) (state .store) (drop k bytes) (picture (take k bytes) (p .shape) (p .first)) (λ after v. pictures n p after v (drop k bytes)) sound
+    (λ u rest. frame state t (picture u (gridShape (p .shape)) (p .first)) (λ after v. pictures n p after v rest))
+    (frame-says r (Pictures n) (state .store) (drop k bytes) (picture (take k bytes) (gridShape (p .shape)) (p .first)) (λ after v. pictures n p after v (drop k bytes)) sound
     (λ v s. pictures-say n p _ v (drop k bytes) s (λ _. z))))
 
 picture-section-says : (p : Pictured) (state : State) (t : Tally) (bytes : List ℕ) → Sound (state .detector) t → Fine p

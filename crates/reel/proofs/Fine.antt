@@ -12,7 +12,7 @@ use Rattle.laws.proofs.Refusal.{first-passes, rest-passes}
 use Rattle.plane.specs.declared.Shape.{Shape}
 use Rattle.plane.specs.declared.Layout.{Layout}
 use Rattle.plane.specs.declared.Layout.the-variants.{Planar, Luma, First, Second}
-use Rattle.plane.specs.Plane.{components, rowBytes, goodShape}
+use Rattle.plane.specs.Plane.{components, rowBytes, goodShape, gridShape}
 use Rattle.plane.proofs.Bounds.{good-within}
 use Rattle.entry.specs.Entry.{wordAt}
 use Rattle.reel.specs.declared.Pictured.{Pictured}
@@ -45,8 +45,8 @@ good-fine s e =
 
 pub given-fine : (u : List ℕ) → lowest (shapeTests u) ≡ 0 → Fine (picturedIn u)
 given-fine u e given =
-    good-fine (shapeIn u)
-    (first-passes 4 (goodShape (shapeIn u)) [] (omega arith) (rest-passes 3 (leb (wordAt u 8) 1) ((4, goodShape (shapeIn u)) ∷ []) (omega arith) e))
+    good-fine (gridShape (shapeIn u))
+    (first-passes 4 (goodShape (gridShape (shapeIn u))) [] (omega arith) (rest-passes 3 (leb (wordAt u 8) 1) ((4, goodShape (gridShape (shapeIn u))) ∷ []) (omega arith) e))
 
 -- ---- a count of pictures that is not refused
 pub given-if : (b given : Bool) → b ≡ false → (b || given) ≡ true → given ≡ true

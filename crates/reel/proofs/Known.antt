@@ -15,7 +15,7 @@ use Rattle.laws.proofs.Rows.{length-over}
 use Rattle.field.specs.declared.Parity.{Parity}
 use Rattle.field.specs.Field.{parityNamed}
 use Rattle.plane.specs.declared.Shape.{Shape}
-use Rattle.plane.specs.Plane.{components, rowBytes, planeBytes, goodShape}
+use Rattle.plane.specs.Plane.{components, rowBytes, planeBytes, goodShape, gridShape}
 use Rattle.plane.proofs.Bounds.{good-within}
 use Rattle.block.specs.Block.{keptFrame}
 use Rattle.telecine.specs.declared.Measured.{Measured}
@@ -103,7 +103,7 @@ module _ (state : State) (first : Parity) (m : Measured) (n : ℕ) (s : Small st
 
 -- ---- a picture is taken: it is within the bounds and fits the store
 record Fits (p : Pictured) : Type 0 where
-  good : goodShape (p .shape) ≡ true
+  good : goodShape (gridShape (p .shape)) ≡ true
   small : pictureBytes p ≤ 16384
 
 rows-fit : (h stride row : ℕ) → 1 ≤ h → row ≤ stride → (h - 1) * stride + row ≤ h * stride
@@ -117,20 +117,20 @@ wide-fits s =
     omega arith
 
 module _ (state : State) (p : Pictured) (u : List ℕ) (n : ℕ) (fits : Fits p) (read : pictureBytes p ≤ length u) (s : Small state (suc n)) where
-  plane-fits : planeBytes (p .shape) ≤ length u
+  plane-fits : planeBytes (gridShape (p .shape)) ≤ length u
   plane-fits =
-      let w = good-within (p .shape) (fits .good) in
-      le-trans (rows-fit (p .shape .height) (p .shape .stride) (rowBytes (p .shape)) (w .height-least) (w .row-fits)) read
+      let w = good-within (gridShape (p .shape)) (fits .good) in
+      le-trans (rows-fit (p .shape .height) (p .shape .stride) (rowBytes (gridShape (p .shape))) (w .height-least) (w .row-fits)) read
 
   frame-fits : p .shape .height * p .shape .width ≤ 16384
   frame-fits =
-      let w = good-within (p .shape) (fits .good) in
+      let w = good-within (gridShape (p .shape)) (fits .good) in
       let all : p .shape .height * p .shape .width ≤ p .shape .height * p .shape .stride =
-      mul-le-mul (le-refl (p .shape .height)) (le-trans (wide-fits (p .shape)) (w .row-fits)) in
+      mul-le-mul (le-refl (p .shape .height)) (le-trans (wide-fits (gridShape (p .shape))) (w .row-fits)) in
       le-trans all (fits .small)
 
   abbrev pushed : Push
-  pushed = picture u (p .shape) (p .first)
+  pushed = picture u (gridShape (p .shape)) (p .first)
 
   picture-taken : numberIn state pushed ≡ 0
   unfolding lowest
@@ -138,7 +138,7 @@ module _ (state : State) (p : Pictured) (u : List ℕ) (n : ℕ) (fits : Fits p)
       rw (
         s .long,
         fits .good,
-        le-leb (planeBytes (p .shape)) (length u) plane-fits,
+        le-leb (planeBytes (gridShape (p .shape))) (length u) plane-fits,
         le-leb (keptBytes (state .detector .kept)) 16384 (s .kept),
         le-leb (p .shape .height * p .shape .width) 16384 frame-fits,
         lt-ltb (state .detector .lock .taken) 4000000000 (omega (arith, s .few)),
@@ -147,7 +147,7 @@ module _ (state : State) (p : Pictured) (u : List ℕ) (n : ℕ) (fits : Fits p)
   store-long : length (next state (push pushed) .store) ≡ 16384
   store-long =
       rw picture-taken
-      (length-over (keptFrame u (p .shape)) (state .store) (rw (kept-long u (p .shape), s .long) frame-fits) ∙ s .long)
+      (length-over (keptFrame u (gridShape (p .shape))) (state .store) (rw (kept-long u (gridShape (p .shape)), s .long) frame-fits) ∙ s .long)
 
   small-after-picture : Small (next state (push pushed)) n
   small-after-picture = record {
@@ -168,15 +168,15 @@ pictures-known (suc n) p state t bytes fits s =
     let k = pictureBytes p in
     let u = take k bytes in
     let f = fits (omega arith) in
-    whole-known k (λ u rest. frame state t (picture u (p .shape) (p .first)) (λ after v. pictures n p after v rest)) bytes
+    whole-known k (λ u rest. frame state t (picture u (gridShape (p .shape)) (p .first)) (λ after v. pictures n p after v rest)) bytes
     (λ long.
     let read = whole-unit k bytes long in
-    frame-known state t (picture u (p .shape) (p .first)) (λ after v. pictures n p after v (drop k bytes)) (picture-taken state p u n f read s)
+    frame-known state t (picture u (gridShape (p .shape)) (p .first)) (λ after v. pictures n p after v (drop k bytes)) (picture-taken state p u n f read s)
     (pictures-known n p _ _ (drop k bytes) (λ _. f) (small-after-picture state p u n f read s)))
 
 -- a shape that is given is within the bounds
 abbrev Good : Pictured → Type 0
-Good p = p .given ≡ true → goodShape (p .shape) ≡ true
+Good p = p .given ≡ true → goodShape (gridShape (p .shape)) ≡ true
 
 none-good : Good noPictured
 none-good given = absurd (true≢false (sym given))
@@ -229,7 +229,7 @@ shape-section-known n bytes all =
     pick (eqb n 0) (λ _. entry-section-known noPictured bytes all none-good)
     (whole-known 10 (λ u rest. judged (shapeTests u) (entrySection (picturedIn u) rest)) bytes
     (λ _.
-    judged-34 (leb (wordAt u 8) 1) (goodShape (shapeIn u))
+    judged-34 (leb (wordAt u 8) 1) (goodShape (gridShape (shapeIn u)))
     (λ good. entry-section-known (picturedIn u) (drop 10 bytes) (rest-bytes bytes 10 all) (λ _. good))))
 
 pub faults-known : FaultsKnown

@@ -9,6 +9,7 @@ use lib.ListN.{length, take, drop}
 use Rattle.laws.specs.Refusal.{lowest}
 use Rattle.field.specs.declared.Cadence.{Cadence}
 use Rattle.field.specs.declared.Cadence.the-variants.{None, Whole, Drop, Spanning}
+use Rattle.plane.specs.Plane.{gridShape}
 use Rattle.pulldown.specs.Lock.{lockedOf}
 use Rattle.telecine.specs.declared.Detector.{Detector}
 use Rattle.telecine.specs.Detector.{freshDetector}
@@ -96,7 +97,7 @@ unfoldable pub pictureCountOf : Reel → List ℕ → Next
 pictureCountOf r u = wholeOf r 2 u (judgedOf r (pictureCountTests (r .pictured) (wordAt u 0)) (onTo r (Pictures (wordAt u 0))))
 
 abbrev pub pictureIn : Reel → List ℕ → Push
-pictureIn r u = picture u (r .pictured .shape) (r .pictured .first)
+pictureIn r u = picture u (gridShape (r .pictured .shape)) (r .pictured .first)
 
 unfoldable pub pictureUnitOf : Reel → ℕ → List ℕ → List ℕ → Next
 pictureUnitOf r n store u = wholeOf r (pictureBytes (r .pictured)) u (pushedOf r (Pictures (n - 1)) store (pictureIn r u))

@@ -9,9 +9,8 @@ use Rattle.laws.specs.Refusal.{lowest}
 use Rattle.field.specs.declared.Cadence.{Cadence}
 use Rattle.field.specs.declared.Cadence.the-variants.{None, Whole, Drop, Spanning}
 use Rattle.field.specs.Field.{parityNamed}
-use Rattle.plane.specs.declared.Shape.{Shape}
-use Rattle.plane.specs.declared.Layout.the-variants.{Planar}
-use Rattle.plane.specs.Plane.{goodShape}
+use Rattle.plane.specs.declared.Grid.{Grid}
+use Rattle.plane.specs.Plane.{goodShape, gridShape}
 use Rattle.pulldown.specs.Lock.{lockedOf}
 use Rattle.telecine.specs.Detector.{freshDetector}
 use Rattle.telecine.specs.History.{State, Push, picture, push, numberIn, cadenceIn, next}
@@ -28,18 +27,18 @@ abbrev pub shapeCountTests : ℕ → List (ℕ × Bool)
 shapeCountTests n = (3, eqb n 0 || eqb n 5) ∷ []
 
 -- The numbers are width, height, depth, stride, parity. A depth too large for its place counts as 255, which is out of bounds too.
-unfoldable pub shapeIn : List ℕ → Shape
-shapeIn u = record { width = wordAt u 0; height = wordAt u 2; depth = min (wordAt u 4) 255; stride = wordAt u 6; layout = Planar }
+unfoldable pub shapeIn : List ℕ → Grid
+shapeIn u = record { width = wordAt u 0; height = wordAt u 2; depth = min (wordAt u 4) 255; stride = wordAt u 6 }
 
 abbrev pub shapeTests : List ℕ → List (ℕ × Bool)
-shapeTests u = (3, leb (wordAt u 8) 1) ∷ (4, goodShape (shapeIn u)) ∷ []
+shapeTests u = (3, leb (wordAt u 8) 1) ∷ (4, goodShape (gridShape (shapeIn u))) ∷ []
 
 -- what pictures look like, and that of a file without a shape
 abbrev pub picturedIn : List ℕ → Pictured
 picturedIn u = record { given = true; shape = shapeIn u; first = parityNamed (wordAt u 8) }
 
 abbrev pub noPictured : Pictured
-noPictured = record { given = false; shape = record { width = 0; height = 0; depth = 0; stride = 0; layout = Planar }; first = parityNamed 0 }
+noPictured = record { given = false; shape = record { width = 0; height = 0; depth = 0; stride = 0 }; first = parityNamed 0 }
 
 abbrev pub entryTests : List ℕ → List (ℕ × Bool)
 entryTests u = (3, goodEntry (entryOf u)) ∷ []
@@ -87,7 +86,7 @@ ending t bytes = cond (eqb (length bytes) 0) (Totals t ∷ []) (Fault 3 ∷ [])
 unfoldable pub pictures : ℕ → Pictured → State → Tally → List ℕ → List Said
 pictures zero p state t bytes = ending t bytes
 pictures (suc n) p state t bytes =
-    whole (pictureBytes p) (λ u rest. frame state t (picture u (p .shape) (p .first)) (λ after v. pictures n p after v rest)) bytes
+    whole (pictureBytes p) (λ u rest. frame state t (picture u (gridShape (p .shape)) (p .first)) (λ after v. pictures n p after v rest)) bytes
 
 unfoldable pub pictureSection : Pictured → State → Tally → List ℕ → List Said
 pictureSection p state t bytes = whole 2 (λ u rest. judged (pictureCountTests p (wordAt u 0)) (pictures (wordAt u 0) p state t rest)) bytes

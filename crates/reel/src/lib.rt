@@ -6,15 +6,14 @@ ghost use mathlib.Core.List.{[], _∷_};
 ghost use Prim.Native.Nat.{_<_, min};
 ghost use lib.Dec.{leb};
 ghost use Rattle.laws.specs.Refusal.{lowest};
-ghost use Rattle.plane.specs.Plane.{goodShape};
+ghost use Rattle.plane.specs.Plane.{goodShape, gridShape};
 ghost use Rattle.reel.specs.Reel.{shapeIn, picturedIn, noPictured, pictureBytes, pictureCountTests, noFrames};
 ghost use Rattle.reel.specs.Machine.{startOf, wantOf, onTo, close, oneMore, talliedIn, shapeCountOf, shapeNumbersOf, entryCountOf, entryUnitOf, pictureCountOf, pictureUnitOf, pictureStore, endOf, nextOf, storeAfter};
 ghost use Rattle.reel.specs.Inner.{pushedAs};
 use entry::word_at;
 use field::Cadence;
 use field::Parity;
-use plane::Layout;
-use plane::Shape;
+use plane::Grid;
 use plane::refusal::OUTSIDE;
 use plane::refusal::SHORT_INPUT;
 use pulldown::Answer;
@@ -24,7 +23,7 @@ use telecine::Pushed;
 // What the file's pictures look like. Where no shape is given, the rest says nothing.
 pub struct Pictured {
     pub given: bool,
-    pub shape: Shape,
+    pub shape: Grid,
     // The field that leads.
     pub first: Parity,
 }
@@ -75,15 +74,14 @@ fn depth_in(word: u16) -> u8
     if word <= 255 { word as u8 } else { 255 }
 }
 
-fn shape_in(unit: &[u8]) -> Shape
+fn shape_in(unit: &[u8]) -> Grid
     ensures { λ r. ⌜ r ≡ shapeIn (now (unit .entry)) ⌝ }
 {
-    Shape {
+    Grid {
         width: word_at(unit, 0),
         height: word_at(unit, 2),
         depth: depth_in(word_at(unit, 4)),
         stride: word_at(unit, 6) as u32,
-        layout: Layout::Planar,
     }
 }
 
@@ -104,12 +102,11 @@ fn no_pictured() -> Pictured
 {
     Pictured {
         given: false,
-        shape: Shape {
+        shape: Grid {
             width: 0,
             height: 0,
             depth: 0,
             stride: 0,
-            layout: Layout::Planar,
         },
         first: Parity::Top,
     }
@@ -134,10 +131,10 @@ fn picture_bytes(pictured: Pictured) -> u64
 }
 
 // What refuses a shape's numbers: 3 or 4.
-fn shape_no(shape: Shape, parity: u16) -> u8
-    ensures { λ r. ⌜ r ≡ lowest ((3, leb parity 1) ∷ (4, goodShape shape) ∷ []) ⌝ }
+fn shape_no(shape: Grid, parity: u16) -> u8
+    ensures { λ r. ⌜ r ≡ lowest ((3, leb parity 1) ∷ (4, goodShape (gridShape shape)) ∷ []) ⌝ }
 {
-    let good = plane::good_shape(shape);
+    let good = plane::good_shape(plane::shape_of(shape));
     plane::refusal::lowest_of(parity <= 1, good, true, true, true, true)
 }
 

@@ -15,7 +15,7 @@ ghost use lib.Dec.{leb};
 ghost use lib.ListN.{length};
 ghost use Rattle.laws.specs.Refusal.{lowest, whenDone};
 ghost use Rattle.field.specs.Field.{firstRowOf};
-ghost use Rattle.plane.specs.Plane.{goodShape, planeBytes};
+ghost use Rattle.plane.specs.Plane.{goodShape, planeBytes, gridShape};
 ghost use Rattle.block.specs.Answer.{countNo, countsOf};
 ghost use Rattle.pulldown.specs.Lock.{answerNo, answerValues, lockedOf, predictNo, predictCadence};
 ghost use Rattle.telecine.specs.Detector.{nothingKept, freshDetector, resetOf, sameParity, ledBy, seenMeasured, comparable, seenPicture, measuredNo, measuredCadence, measuredDetector, keptBytes, pushNo, pushCadence, pushDetector, pushStore};
@@ -23,7 +23,7 @@ use block::Counted;
 use block::Counts;
 use field::Chosen;
 use field::Parity;
-use plane::Shape;
+use plane::Grid;
 use pulldown::Answer;
 use pulldown::Lock;
 use pulldown::Seen;
@@ -90,23 +90,23 @@ pub fn seen_measured(last: Chosen, first: Parity, measured: Measured) -> Seen
 }
 
 // Whether a picture can be compared with the kept frame.
-fn can_compare(kept: Kept, shape: Shape, first: Parity) -> bool
-    ensures { λ r. ⌜ r ≡ comparable kept shape first ⌝ }
+fn can_compare(kept: Kept, grid: Grid, first: Parity) -> bool
+    ensures { λ r. ⌜ r ≡ comparable kept (gridShape grid) first ⌝ }
 {
     let led = kept.first;
     kept.held
-        & ((kept.width == shape.width)
-            & (kept.height == shape.height)
+        & ((kept.width == grid.width)
+            & (kept.height == grid.height)
             & same_parity(led, first)
-            & (shape.height != 1))
+            & (grid.height != 1))
 }
 
 // The counts of a field against the kept frame, of a picture that passes the tests of `block::count`.
-fn counts_of(plane: &[u8], shape: Shape, store: &[u8], parity: Parity) -> Counts
-    requires { ⌜ countNo shape (length (now plane)) (length (now store)) ≡ 0 ⌝ }
-    ensures { λ r. ⌜ r ≡ countsOf (now (plane .entry)) shape (now (store .entry)) (firstRowOf parity) ⌝ }
+fn counts_of(plane: &[u8], grid: Grid, store: &[u8], parity: Parity) -> Counts
+    requires { ⌜ countNo (gridShape grid) (length (now plane)) (length (now store)) ≡ 0 ⌝ }
+    ensures { λ r. ⌜ r ≡ countsOf (now (plane .entry)) (gridShape grid) (now (store .entry)) (firstRowOf parity) ⌝ }
 {
-    let counted = block::count(plane, shape, store, parity);
+    let counted = block::count(plane, grid, store, parity);
     match counted {
         Counted::Value(counts) => counts,
         Counted::Refused(_) => Counts { busy: 0, total: 0 },
@@ -114,13 +114,13 @@ fn counts_of(plane: &[u8], shape: Shape, store: &[u8], parity: Parity) -> Counts
 }
 
 // What a picture shows against the kept frame.
-fn seen_picture(kept: Kept, store: &[u8], plane: &[u8], shape: Shape, first: Parity) -> Seen
-    requires { ⌜ countNo shape (length (now plane)) (length (now store)) ≡ 0 ⌝ }
-    ensures { λ r. ⌜ r ≡ seenPicture kept (now (store .entry)) (now (plane .entry)) shape first ⌝ }
+fn seen_picture(kept: Kept, store: &[u8], plane: &[u8], grid: Grid, first: Parity) -> Seen
+    requires { ⌜ countNo (gridShape grid) (length (now plane)) (length (now store)) ≡ 0 ⌝ }
+    ensures { λ r. ⌜ r ≡ seenPicture kept (now (store .entry)) (now (plane .entry)) (gridShape grid) first ⌝ }
 {
-    if can_compare(kept, shape, first) {
-        let leading = counts_of(plane, shape, store, first);
-        let trailing = counts_of(plane, shape, store, first.other());
+    if can_compare(kept, grid, first) {
+        let leading = counts_of(plane, grid, store, first);
+        let trailing = counts_of(plane, grid, store, first.other());
         return Seen::Symbol(pulldown::classify_counts(leading.busy, leading.total, trailing.busy));
     }
     Seen::NotComparable
@@ -143,13 +143,14 @@ fn kept_bytes(kept: Kept) -> usize
 }
 
 // What refuses a picture, apart from the number of frames: 4, 6 or 7.
-fn picture_no(kept: Kept, shape: Shape, bytes: usize, room: usize) -> u8
-    ensures { λ r. ⌜ r ≡ lowest ((4, goodShape shape) ∷ (6, leb (planeBytes shape) bytes && leb (keptBytes kept) room) ∷ (7, leb (shape .height * shape .width) room) ∷ []) ⌝ }
+fn picture_no(kept: Kept, grid: Grid, bytes: usize, room: usize) -> u8
+    ensures { λ r. ⌜ r ≡ lowest ((4, goodShape (gridShape grid)) ∷ (6, leb (planeBytes (gridShape grid)) bytes && leb (keptBytes kept) room) ∷ (7, leb (grid .height * grid .width) room) ∷ []) ⌝ }
 {
+    let shape = plane::shape_of(grid);
     let good = plane::good_shape(shape);
     let long = plane::plane_bytes(shape) <= bytes;
     let held = kept_bytes(kept) <= room;
-    let fits = frame_bytes(shape.height, shape.width) <= room;
+    let fits = frame_bytes(grid.height, grid.width) <= room;
     plane::refusal::lowest_of(true, good, true, long & held, fits, true)
 }
 
@@ -233,36 +234,37 @@ impl Detector {
         }
     }
 
-    // Takes a picture: compares it with the frame that the store keeps, and then keeps it there.
-    pub fn push(self, plane: &[u8], shape: Shape, first: Parity, store: &mut [u8]) -> Pushed
-        ensures { λ r. ⌜ (r .detector ≡ pushDetector self (now (store .entry)) (now (plane .entry)) shape first)
-            × (answerNo (r .answer) ≡ pushNo self shape (length (now (plane .entry))) (length (now (store .entry))))
-            × (answerValues (r .answer) ≡ whenDone (pushNo self shape (length (now (plane .entry))) (length (now (store .entry)))) (pushCadence self (now (store .entry)) (now (plane .entry)) shape first))
-            × (now (store .exit) ≡ pushStore self (now (store .entry)) (now (plane .entry)) shape) ⌝ }
+    // Takes a picture: compares it with the frame that the store keeps, and then keeps it there. Words are
+    // read as they stand: a biplanar luma deeper than 8 bits goes through readback first.
+    pub fn push(self, plane: &[u8], grid: Grid, first: Parity, store: &mut [u8]) -> Pushed
+        ensures { λ r. ⌜ (r .detector ≡ pushDetector self (now (store .entry)) (now (plane .entry)) (gridShape grid) first)
+            × (answerNo (r .answer) ≡ pushNo self (gridShape grid) (length (now (plane .entry))) (length (now (store .entry))))
+            × (answerValues (r .answer) ≡ whenDone (pushNo self (gridShape grid) (length (now (plane .entry))) (length (now (store .entry)))) (pushCadence self (now (store .entry)) (now (plane .entry)) (gridShape grid) first))
+            × (now (store .exit) ≡ pushStore self (now (store .entry)) (now (plane .entry)) (gridShape grid)) ⌝ }
     {
         let kept = self.kept;
-        let no = picture_no(kept, shape, plane.len(), store.len());
+        let no = picture_no(kept, grid, plane.len(), store.len());
         if no != 0 {
             return Pushed {
                 detector: self,
                 answer: Answer::Refused(no),
             };
         }
-        let seen = seen_picture(kept, store, plane, shape, first);
+        let seen = seen_picture(kept, store, plane, grid, first);
         let old = self.lock;
         let pushed = old.push(seen);
         let answer = pushed.answer;
         let lock = pushed.lock;
         match answer {
             Answer::Gave(cadence) => {
-                block::keep(store, plane, shape);
+                block::keep(store, plane, grid);
                 Pushed {
                     detector: Detector {
                         lock: lock,
                         kept: Kept {
                             held: true,
-                            width: shape.width,
-                            height: shape.height,
+                            width: grid.width,
+                            height: grid.height,
                             first: first,
                         },
                         last: Chosen::Field(first),

@@ -5,6 +5,7 @@ use native.Mathlib.Omega.{arith}
 use lib.ListN.{length}
 use denote.Ref.{now}
 use borrow.Author.Needs.{needs}
+use Rattle.plane.specs.Plane.{gridShape}
 use Rattle.block.specs.Rows.{RowReady, KeptRow}
 use Rattle.laws.proofs.Lists.{part-length}
 use Rattle.block.proofs.Rows.{frame-within, row-listed}
@@ -16,21 +17,21 @@ use Rattle.block.proofs.add_row_of.Tie as tie
 old-ends :
     (c : tie.After-struct-known) →
     let a = c .before .before .before .before .args in
-    a .y * a .shape .width + a .shape .width ≤ length (now (a .store))
+    a .y * a .grid .width + a .grid .width ≤ length (now (a .store))
 old-ends c =
     let start = c .before .before .before .before in
-    let s = start .args .shape in
+    let s = start .args .grid in
     omega (arith, frame-within (s .width) (s .height) (start .args .y) (start .pre .1), start .pre .0 .roomy)
 
-old-long : (c : tie.After-part-at) → length (now (c .part-at .result)) ≡ c .before .before .before .before .before .args .shape .width
+old-long : (c : tie.After-part-at) → length (now (c .part-at .result)) ≡ c .before .before .before .before .before .args .grid .width
 old-long c =
     let a = c .before .before .before .before .before .args in
-    ap length (c .part-at .ensures) ∙ part-length (now (a .store)) (a .y * a .shape .width) (a .shape .width) (old-ends (c .before))
+    ap length (c .part-at .ensures) ∙ part-length (now (a .store)) (a .y * a .grid .width) (a .grid .width) (old-ends (c .before))
 
 row-ready :
     (c : tie.After-part-at) →
     let a = c .before .before .before .before .before .args in
-    RowReady (a .shape) (length (now (a .plane))) (a .y)
+    RowReady (gridShape (a .grid)) (length (now (a .plane))) (a .y)
 row-ready c =
     let start = c .before .before .before .before .before in
     record { good = start .pre .0 .good; long = start .pre .0 .long; inner = start .pre .1 }
@@ -38,10 +39,10 @@ row-ready c =
 row-kept :
     (c : tie.After-keep-row) →
     let a = c .before .before .before .before .before .before .before .before .before .args in
-    KeptRow (c .keep-row .last .0) (now (a .plane)) (a .shape) (a .y)
+    KeptRow (c .keep-row .last .0) (now (a .plane)) (gridShape (a .grid)) (a .y)
 row-kept c =
     let a = c .before .before .before .before .before .before .before .before .before .args in
-    row-listed (now (a .plane)) (a .shape) (a .y) (c .keep-row .ensures)
+    row-listed (now (a .plane)) (gridShape (a .grid)) (a .y) (c .keep-row .ensures)
 
 cast-width : tie.Need-cast-width
 cast-width c = search needs
@@ -52,13 +53,10 @@ mul-part-at c = omega (arith, old-ends c)
 part-at-requires : tie.Need-part-at-requires
 part-at-requires c κs = old-ends c
 
-has-byte-rows-requires : tie.Need-has-byte-rows-requires
-has-byte-rows-requires c κs = search needs
-
 byte-row-requires : tie.Need-byte-row-requires
 byte-row-requires c κs =
     let test = c .before in
-    (row-ready (test .before .before), sym (test .before .has-byte-rows .ensures) ∙ test .if1 .taken)
+    (row-ready (test .before .before), test .if1 .taken)
 
 add-row-requires : tie.Need-add-row-requires
 add-row-requires c κs =
@@ -72,7 +70,7 @@ returns c =
     let part = row .before .before .before .before in
     let a = part .before .before .before .before .before .args in (
       c .add-row .ensures .0,
-      row-added (now (a .plane)) (a .shape) (now (a .store)) (a .y) (now (row .byte-row .result)) (row .byte-row .ensures) (part .part-at .ensures)
+      row-added (now (a .plane)) (gridShape (a .grid)) (now (a .store)) (a .y) (now (row .byte-row .result)) (row .byte-row .ensures) (part .part-at .ensures)
           (c .add-row .ensures .1),
     )
 
@@ -97,7 +95,7 @@ returns-2 c =
     let part = keep .before .before .before .before in
     let a = part .before .before .before .before .before .args in (
       c .add-row2 .ensures .0,
-      row-added (now (a .plane)) (a .shape) (now (a .store)) (a .y) (keep .keep-row .last .0) (row-kept keep) (part .part-at .ensures)
+      row-added (now (a .plane)) (gridShape (a .grid)) (now (a .store)) (a .y) (keep .keep-row .last .0) (row-kept keep) (part .part-at .ensures)
           (c .add-row2 .ensures .1),
     )
 
@@ -108,7 +106,6 @@ add-row-of-spec =
     cast-width
     mul-part-at
     part-at-requires
-    has-byte-rows-requires
     byte-row-requires
     add-row-requires
     returns

@@ -7,6 +7,7 @@ use denote.Ref.{now}
 use borrow.Author.Needs.{needs}
 use Rattle.laws.specs.Sums.{sumOver}
 use Rattle.plane.proofs.Bounds.{good-within}
+use Rattle.plane.specs.Plane.{gridShape}
 use Rattle.block.specs.Block.{blocksAcross}
 use Rattle.block.specs.Counters.{bandRow, busyBy, Counters, Added}
 use Rattle.block.proofs.Counters.{rows-at-most, rows-none, rows-one, counted, counted-at-most, same-busy}
@@ -14,18 +15,18 @@ use Rattle.block.proofs.band.Statement.{statement}
 use Rattle.block.proofs.band.Tie as tie
 
 abbrev Inv-loop : tie.InvT-loop
-Inv-loop row₀ plane shape store first top rows counters₀ i₀ row counters i =
-    (i ≤ rows) × (length counters ≡ 512) × (length row ≡ shape .width)
-    × Added counters₀ counters (λ b. sumOver i (λ k. bandRow plane shape store first top k b)) (blocksAcross (shape .width))
+Inv-loop row₀ plane grid store first top rows counters₀ i₀ row counters i =
+    (i ≤ rows) × (length counters ≡ 512) × (length row ≡ grid .width)
+    × Added counters₀ counters (λ b. sumOver i (λ k. bandRow plane (gridShape grid) store first top k b)) (blocksAcross (grid .width))
 
 abbrev μ-loop : tie.MeasureT-loop
-μ-loop row₀ plane shape store first top rows counters₀ i₀ row counters i = rows - i
+μ-loop row₀ plane grid store first top rows counters₀ i₀ row counters i = rows - i
 
 loop-holds : tie.Need-loop-holds Inv-loop μ-loop
 loop-holds c = (omega arith, refl, c .before .before .before .pre .4, rows-none _)
 
 -- a counter holds at most 16 for each row passed
-counters-ready : (c : tie.At-loop Inv-loop μ-loop) → Counters (c .loop .counters) (c .before .before .before .before .args .shape .width)
+counters-ready : (c : tie.At-loop Inv-loop μ-loop) → Counters (c .loop .counters) (c .before .before .before .before .args .grid .width)
 counters-ready c =
     let start = c .before .before .before .before in
     let a = start .args in
@@ -33,8 +34,8 @@ counters-ready c =
       many = c .loop .inv .1;
       low =
           counted-at-most 512 (c .loop .inv .3) 128
-          (λ b. omega (arith, rows-at-most (now (a .plane)) (a .shape) (now (a .store)) (a .first) (a .top) (c .loop .i) b));
-      narrow = good-within (a .shape) (start .pre .0 .good) .width-most;
+          (λ b. omega (arith, rows-at-most (now (a .plane)) (gridShape (a .grid)) (now (a .store)) (a .first) (a .top) (c .loop .i) b));
+      narrow = good-within (gridShape (a .grid)) (start .pre .0 .good) .width-most;
     }
 
 add-y : tie.Need-add-y Inv-loop μ-loop
@@ -65,7 +66,7 @@ loop-again c =
       omega arith,
       turn .add-row-of .ensures .0,
       turn .add-row-of .kept .1 .0 ∙ l .inv .2,
-      rows-one (bandRow (now (a .plane)) (a .shape) (now (a .store)) (a .first) (a .top)) (l .inv .3) (turn .add-row-of .ensures .1),
+      rows-one (bandRow (now (a .plane)) (gridShape (a .grid)) (now (a .store)) (a .first) (a .top)) (l .inv .3) (turn .add-row-of .ensures .1),
     )
 
 cast-busy-in : tie.Need-cast-busy-in Inv-loop μ-loop
@@ -87,8 +88,8 @@ returns c =
     let store = now (a .store) in
     let all-rows : loop .loop .i ≡ a .rows = omega arith in (
       c .busy-in .ensures .0
-          ∙ same-busy (a .shape .width) (a .rows) _ _ (counted 512 (loop .loop .inv .3))
-          ∙ ap (λ (n : ℕ). busyBy (a .shape .width) (a .rows) (λ b. sumOver n (λ k. bandRow bytes (a .shape) store (a .first) (a .top) k b))) all-rows,
+          ∙ same-busy (a .grid .width) (a .rows) _ _ (counted 512 (loop .loop .inv .3))
+          ∙ ap (λ (n : ℕ). busyBy (a .grid .width) (a .rows) (λ b. sumOver n (λ k. bandRow bytes (gridShape (a .grid)) store (a .first) (a .top) k b))) all-rows,
       c .busy-in .ensures .1,
     )
 

@@ -8,23 +8,24 @@ use borrow.Author.Needs.{needs}
 use Rattle.laws.specs.Sums.{sumOver}
 use Rattle.laws.proofs.Sums.{Summed, starts, adds, ends}
 use Rattle.plane.proofs.Bounds.{good-within}
+use Rattle.plane.specs.Plane.{gridShape}
 use Rattle.block.specs.Block.{bandsDown, busyOf, busyField}
 use Rattle.block.proofs.Counters.{busyBand, band-counted}
 use Rattle.block.proofs.busy_rows.Statement.{statement}
 use Rattle.block.proofs.busy_rows.Tie as tie
 
 abbrev Inv-loop : tie.InvT-loop
-Inv-loop row₀ plane shape store first rows n busy₀ k₀ row busy k =
-    Summed 512 (busyBand plane shape store first rows) (bandsDown rows) busy k × (length row ≡ shape .width)
+Inv-loop row₀ plane grid store first rows n busy₀ k₀ row busy k =
+    Summed 512 (busyBand plane (gridShape grid) store first rows) (bandsDown rows) busy k × (length row ≡ grid .width)
 
 abbrev μ-loop : tie.MeasureT-loop
-μ-loop row₀ plane shape store first rows n busy₀ k₀ row busy k = n - k
+μ-loop row₀ plane grid store first rows n busy₀ k₀ row busy k = n - k
 
 -- a field has at most 2,176 rows
 rows-few : (c : tie.After-shared-slice-known2 Inv-loop μ-loop) → c .before .before .before .args .rows ≤ 2176
 rows-few c =
     let start = c .before .before .before in
-    omega (arith, good-within (start .args .shape) (start .pre .0 .good) .height-most, start .pre .1, start .pre .2)
+    omega (arith, good-within (gridShape (start .args .grid)) (start .pre .0 .good) .height-most, start .pre .1, start .pre .2)
 
 bands-requires : tie.Need-bands-requires Inv-loop μ-loop
 bands-requires c κs = omega (arith, rows-few c)
@@ -62,7 +63,7 @@ loop-again c =
     let l = turn .before .before .before .before .loop in
     let a = turn .before .before .before .before .before .before .before .before .before .args in (
       adds (l .inv .0) (omega arith) (turn .band .ensures .1)
-          (band-counted (now (a .plane)) (a .shape) (now (a .store)) (a .first) (a .rows) (l .k) (turn .before .lesser .ensures) (turn .band .ensures .0)),
+          (band-counted (now (a .plane)) (gridShape (a .grid)) (now (a .store)) (a .first) (a .rows) (l .k) (turn .before .lesser .ensures) (turn .band .ensures .0)),
       turn .band .kept .0 ∙ l .inv .1,
     )
 
@@ -76,7 +77,7 @@ returns c =
     let start = loop .before .before .before .before .before in
     let a = start .args in
     ends (loop .loop .inv .0) (omega arith)
-    ∙ ap (λ (rows : ℕ). sumOver (bandsDown rows) (busyBand (now (a .plane)) (a .shape) (now (a .store)) (a .first) rows)) (start .pre .2)
+    ∙ ap (λ (rows : ℕ). sumOver (bandsDown rows) (busyBand (now (a .plane)) (gridShape (a .grid)) (now (a .store)) (a .first) rows)) (start .pre .2)
 
 pub busy-rows-spec : {M : Type 1} → statement M
 busy-rows-spec =

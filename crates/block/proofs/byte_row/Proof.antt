@@ -4,6 +4,7 @@ use native.Mathlib.Omega.{arith}
 use lib.ListN.{length}
 use denote.Ref.{now}
 use borrow.Author.Needs.{needs}
+use Rattle.plane.specs.Plane.{gridShape}
 use Rattle.plane.specs.Claims.{AllBytes}
 use Rattle.block.proofs.Rows.{row-within, byte-row-size, byte-row-kept}
 use Rattle.block.proofs.byte_row.Statement.{statement}
@@ -12,10 +13,10 @@ use Rattle.block.proofs.byte_row.Tie as tie
 row-ends :
     (c : tie.Start) →
     let a = c .args in
-    a .y * a .shape .stride + a .shape .width ≤ length (now (a .plane))
+    a .y * a .grid .stride + a .grid .width ≤ length (now (a .plane))
 row-ends c =
     let a = c .args in
-    omega (arith, row-within (a .shape) (length (now (a .plane))) (a .y) (c .pre .0 .long) (c .pre .0 .inner), byte-row-size (a .shape) (c .pre .1))
+    omega (arith, row-within (gridShape (a .grid)) (length (now (a .plane))) (a .y) (c .pre .0 .long) (c .pre .0 .inner), byte-row-size (a .grid) (c .pre .1))
 
 all-bytes : (c : tie.After-shared-slice-known) → AllBytes (now (c .before .args .plane))
 all-bytes c i = omega (arith, c .shared-slice-known .given i)
@@ -36,7 +37,7 @@ returns : tie.Need-returns
 returns c =
     let start = c .before .before .before .before in
     let a = start .args in
-    byte-row-kept (a .shape) (start .pre .1) (now (a .plane)) (a .y) (all-bytes (c .before .before .before)) (row-ends start) (c .part-at .ensures)
+    byte-row-kept (a .grid) (start .pre .1) (now (a .plane)) (a .y) (all-bytes (c .before .before .before)) (row-ends start) (c .part-at .ensures)
 
 pub byte-row-spec : {M : Type 1} → statement M
 byte-row-spec =

@@ -4,6 +4,9 @@ use Rattle.laws.specs.Refusal.{lowest}
 use Rattle.block.proofs.count_no.Statement.{statement}
 use Rattle.block.proofs.count_no.Tie as tie
 
+shape-of-requires : tie.Need-shape-of-requires
+shape-of-requires c κs = search needs
+
 good-shape-requires : tie.Need-good-shape-requires
 good-shape-requires c κs = search needs
 
@@ -18,12 +21,17 @@ lowest-of-requires c κs = search needs
 
 returns : tie.Need-returns
 unfolding lowest
-returns c = cc
+returns c =
+    let size = c .before in
+    let long = size .before in
+    let good = long .before in
+    simp (c .lowest-of .ensures, size .frame-bytes .ensures, long .plane-bytes .ensures, good .good-shape .ensures, good .before .shape-of .ensures)
 
 pub count-no-spec : {M : Type 1} → statement M
 count-no-spec =
     tie.close
     (tie.spec
+    shape-of-requires
     good-shape-requires
     plane-bytes-requires
     frame-bytes-requires

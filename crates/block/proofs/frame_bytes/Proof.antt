@@ -14,7 +14,7 @@ cast-result-2 c = search needs
 
 mul-result : tie.Need-mul-result
 mul-result c =
-    let s = c .before .before .args .shape in
+    let s = c .before .before .args .grid in
     let h : s .height ≤ 65535 = omega arith in
     let w : s .width ≤ 65535 = omega arith in
     omega (arith, mul-le-mul h w)

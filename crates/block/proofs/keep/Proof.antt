@@ -2,6 +2,7 @@
 use lib.ListN.{length}
 use denote.Ref.{now}
 use borrow.Author.Needs.{needs}
+use Rattle.plane.specs.Plane.{gridShape}
 use Rattle.block.proofs.Passed.{keep-passed, writes, stays}
 use Rattle.block.proofs.keep.Statement.{statement}
 use Rattle.block.proofs.keep.Tie as tie
@@ -12,7 +13,7 @@ keep-no-requires c κs = search needs
 keep-rows-requires : tie.Need-keep-rows-requires
 keep-rows-requires c κs =
     let a = c .before .before .before .before .before .args in
-    keep-passed (a .shape) (length (now (a .plane))) (length (now (a .store))) (c .before .before .keep-no .ensures) (c .before .if1 .taken)
+    keep-passed (gridShape (a .grid)) (length (now (a .plane))) (length (now (a .store))) (c .before .before .keep-no .ensures) (c .before .if1 .taken)
 
 same-length : tie.Need-same-length
 same-length c = search needs

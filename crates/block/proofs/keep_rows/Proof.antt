@@ -7,17 +7,18 @@ use denote.Ref.{now}
 use borrow.Author.Needs.{needs}
 use Rattle.laws.specs.Rows.{listed}
 use Rattle.laws.proofs.Lists.{Stacked, length-listed, stack-starts, stacks, stack-ends, part-length}
+use Rattle.plane.specs.Plane.{gridShape}
 use Rattle.block.specs.Block.{keptOf, keptFrame}
 use Rattle.block.proofs.Rows.{frame-within}
 use Rattle.block.proofs.keep_rows.Statement.{statement}
 use Rattle.block.proofs.keep_rows.Tie as tie
 
 abbrev Inv-loop : tie.InvT-loop
-Inv-loop store₀ plane shape width height y₀ store y =
-    Stacked (λ y. listed (shape .width) (λ x. keptOf plane shape x y)) (shape .width) (shape .height) store₀ store y
+Inv-loop store₀ plane grid width height y₀ store y =
+    Stacked (λ y. listed (grid .width) (λ x. keptOf plane (gridShape grid) x y)) (grid .width) (grid .height) store₀ store y
 
 abbrev μ-loop : tie.MeasureT-loop
-μ-loop store₀ plane shape width height y₀ store y = shape .height - y
+μ-loop store₀ plane grid width height y₀ store y = grid .height - y
 
 cast-width : tie.Need-cast-width Inv-loop μ-loop
 cast-width c = search needs
@@ -32,10 +33,10 @@ loop-holds c = stack-starts (λ y. length-listed _ _)
 row-room :
     (c : tie.In-loop Inv-loop μ-loop) →
     let a = c .before .before .before .before .before .before .args in
-    c .before .loop .y * a .shape .width + a .shape .width ≤ length (now (a .store))
+    c .before .loop .y * a .grid .width + a .grid .width ≤ length (now (a .store))
 row-room c =
     let start = c .before .before .before .before .before .before in
-    let s = start .args .shape in
+    let s = start .args .grid in
     omega (arith, frame-within (s .width) (s .height) (c .before .loop .y) (c .loop-test .taken), start .pre .roomy)
 
 mul-start : tie.Need-mul-start Inv-loop μ-loop
@@ -58,7 +59,7 @@ keep-row-requires c κs =
     let turn = c .before in
     let start = turn .before .before .before .before .before .before in
     let l = turn .before .loop in
-    let w = start .args .shape .width in
+    let w = start .args .grid .width in
     let span : l .y * w + w - l .y * w ≡ w = omega arith in (
       record { good = start .pre .good; long = start .pre .long; inner = turn .loop-test .taken },
       rw span (part-length (l .store) (l .y * w) w (omega (arith, row-room turn))),

@@ -12,22 +12,27 @@ use Rattle.laws.specs.Refusal.{lowest, whenDone, written}
 use Rattle.laws.specs.Rows.{over}
 use Rattle.laws.proofs.Refusal as refusal
 use Rattle.field.specs.Field.{cadenceNumber, parityNamed}
-use Rattle.plane.specs.Plane.{goodShape, planeBytes}
+use Rattle.plane.specs.declared.Grid.{Grid}
+use Rattle.plane.specs.Plane.{goodShape, planeBytes, gridShape}
 use Rattle.block.specs.Block.{keptFrame}
 use Rattle.pulldown.specs.Lock.{answerNo, answerValues}
 use Rattle.telecine.specs.declared.Detector.{Detector}
 use Rattle.telecine.specs.Detector.{keptBytes, measuredTests, pushCadence, pushDetector, pushStore}
-use Rattle.desk.specs.Planes.{shapeNamed}
 use Rattle.filmdesk.specs.Kept.{detectorIn, keeping}
-use Rattle.filmdesk.specs.Film.{pushStateNo}
+use Rattle.filmdesk.specs.Inner.{gridOf}
+use Rattle.filmdesk.specs.Film.{gridNamed, pushStateNo}
+use Rattle.filmdesk.proofs.Grids.{cut-alike}
 use Rattle.filmdesk.proofs.General.{Answered, said, value, stays}
 use Rattle.filmdesk.proofs.Kept.{found-ring, pushed-ring}
-use Rattle.filmdesk.proofs.Calls.{firstStep, first-step-refuses, first-step-passes, state-room}
+use Rattle.filmdesk.proofs.Calls.{firstStep, first-step-refuses, first-step-passes, first-step-good, state-room}
 use Rattle.filmdesk.proofs.desk_detector_push.Statement.{statement}
 use Rattle.filmdesk.proofs.desk_detector_push.Tie as tie
 
-shape-named-requires : tie.Need-shape-named-requires
-shape-named-requires c κs = search needs
+grid-of-requires : tie.Need-grid-of-requires
+grid-of-requires c κs = search needs
+
+shape-of-requires : tie.Need-shape-of-requires
+shape-of-requires c κs = search needs
 
 good-shape-requires : tie.Need-good-shape-requires
 good-shape-requires c κs = search needs
@@ -35,19 +40,36 @@ good-shape-requires c κs = search needs
 lowest-of-requires : tie.Need-lowest-of-requires
 lowest-of-requires c κs = search needs
 
+-- what was judged is the shape as it was cut
+good-cut :
+    (judged : tie.After-lowest-of) →
+    judged .before .good-shape .result ≡ goodShape (gridShape (gridOf (judged .before .before .before .before .before .before .before .args .grid)))
+good-cut judged =
+    let shaped = judged .before .before in
+    judged .before .good-shape .ensures ∙ ap goodShape (shaped .shape-of .ensures) ∙ ap (λ (g : Grid). goodShape (gridShape g)) (shaped .before .grid-of .ensures)
+
+-- which, where it is good, is the shape as it was given
+picture-is :
+    (passed : tie.Else1) →
+    gridShape (passed .before .before .before .before .grid-of .result) ≡ gridNamed (passed .before .before .before .before .before .before .before .before .args .grid)
+picture-is passed =
+    let judged = passed .before in
+    let a = judged .before .before .before .before .before .before .before .args in
+    let good = first-step-good (leb (a .parity) 1) _ (leb 96 (length (now (a .state)))) (sym (judged .lowest-of .ensures) ∙ passed .if1 .left) in
+    ap gridShape (judged .before .before .before .grid-of .ensures) ∙ cut-alike (a .grid) .same (sym (good-cut judged) ∙ good)
+
 returns : tie.Need-returns
 returns c =
     let judged = c .before in
-    let shape = judged .before .before .shape-named .ensures in
     let a = judged .before .before .before .before .before .before .before .args in
-    let s = shapeNamed (a .shape) in
+    let s = gridNamed (a .grid) in
     let d = detectorIn (now (a .state)) in
     let bytes = length (now (a .plane)) in
     let room = length (now (a .store)) in
-    let named = leb (a .shape .layout) 3 && leb (a .parity) 1 in
+    let named = leb (a .parity) 1 in
     let long = leb 96 (length (now (a .state))) in
     let step =
-    judged .lowest-of .ensures ∙ ap (λ (good : Bool). firstStep named good long) (judged .before .good-shape .ensures ∙ ap goodShape shape)
+    judged .lowest-of .ensures ∙ ap (λ (good : Bool). firstStep named good long) (good-cut judged ∙ cut-alike (a .grid) .verdict)
     in (
       step
           ∙ first-step-refuses named (goodShape s) long (leb (planeBytes s) bytes) (leb (keptBytes (d .kept)) room) ((7, leb (s .height * s .width) room) ∷ measuredTests d)
@@ -63,7 +85,7 @@ detector-in-requires c κs =
     let passed = c .before in
     let judged = passed .before in
     let a = judged .before .before .before .before .before .before .before .args in
-    state-room (leb (a .shape .layout) 3 && leb (a .parity) 1) (judged .before .good-shape .result) (length (now (a .state))) (sym (judged .lowest-of .ensures) ∙ passed .if1 .left)
+    state-room (leb (a .parity) 1) (judged .before .good-shape .result) (length (now (a .state))) (sym (judged .lowest-of .ensures) ∙ passed .if1 .left)
 
 named-requires : tie.Need-named-requires
 named-requires c κs = search needs
@@ -78,24 +100,27 @@ enum-known-answer c = search needs
 answered :
     (k : tie.After-push) → let a = k .before .before .before .before .before .before .before .before .before .before .before .before .before .args in
     Answered answerNo answerValues (k .push .result .answer)
-    (pushStateNo (a .shape) (a .parity) (length (now (a .plane))) (length (now (a .store))) (length (now (a .state))) (detectorIn (now (a .state))))
-    (pushCadence (detectorIn (now (a .state))) (now (a .store)) (now (a .plane)) (shapeNamed (a .shape)) (parityNamed (a .parity)))
+    (pushStateNo (a .grid) (a .parity) (length (now (a .plane))) (length (now (a .store))) (length (now (a .state))) (detectorIn (now (a .state))))
+    (pushCadence (detectorIn (now (a .state))) (now (a .store)) (now (a .plane)) (gridNamed (a .grid)) (parityNamed (a .parity)))
 answered k =
     let found = k .before .before .before in
     let passed = found .before .before in
     let judged = passed .before in
-    let shaped = judged .before .before in
-    let a = shaped .before .before .before .before .before .args in
+    let shaped = judged .before .before .before in
+    let a = shaped .before .before .before .before .args in
     let d = found .detector-in .ensures in
-    let s = shaped .shape-named .ensures in
+    let s = picture-is passed in
     let bytes = length (now (a .plane)) in
     let room = length (now (a .store)) in
-    let named = leb (a .shape .layout) 3 && leb (a .parity) 1 in
+    let named = leb (a .parity) 1 in
     let long = leb 96 (length (now (a .state))) in
-    let picture = shaped .shape-named .result in
+    let picture = gridShape (shaped .grid-of .result) in
     let before = found .detector-in .result in
     let step =
-    ap (λ (good : Bool). firstStep named good long) (sym (judged .before .good-shape .ensures)) ∙ sym (judged .lowest-of .ensures) ∙ passed .if1 .left
+    ap (λ (good : Bool). firstStep named good long)
+    (sym (judged .before .good-shape .ensures ∙ ap goodShape (judged .before .before .shape-of .ensures)))
+    ∙ sym (judged .lowest-of .ensures)
+    ∙ passed .if1 .left
     in
     let number =
     first-step-passes named (goodShape picture) long (leb (planeBytes picture) bytes) (leb (keptBytes (before .kept)) room)
@@ -111,11 +136,11 @@ answered k =
 
 handed-back :
     (k : tie.After-push) → let a = k .before .before .before .before .before .before .before .before .before .before .before .before .before .args in
-    k .push .result .detector ≡ pushDetector (detectorIn (now (a .state))) (now (a .store)) (now (a .plane)) (shapeNamed (a .shape)) (parityNamed (a .parity))
+    k .push .result .detector ≡ pushDetector (detectorIn (now (a .state))) (now (a .store)) (now (a .plane)) (gridNamed (a .grid)) (parityNamed (a .parity))
 handed-back k =
     let a = k .before .before .before .before .before .before .before .before .before .before .before .before .before .args in
     k .push .ensures .0
-    ∙ (λ i. pushDetector (k .before .before .before .detector-in .ensures i) (now (a .store)) (now (a .plane)) (k .before .before .before .before .before .before .before .before .shape-named .ensures i) (k .before .before .named .ensures i))
+    ∙ (λ i. pushDetector (k .before .before .before .detector-in .ensures i) (now (a .store)) (now (a .plane)) (picture-is (k .before .before .before .before .before) i) (k .before .before .named .ensures i))
 
 keep-requires : tie.Need-keep-requires
 keep-requires c κs =
@@ -123,9 +148,9 @@ keep-requires c κs =
     let a = k .before .before .before .before .before .before .before .before .before .before .before .before .before .args in
     let passed = k .before .before .before .before .before in
     let judged = passed .before in (
-      state-room (leb (a .shape .layout) 3 && leb (a .parity) 1) (judged .before .good-shape .result) (length (now (a .state)))
+      state-room (leb (a .parity) 1) (judged .before .good-shape .result) (length (now (a .state)))
           (sym (judged .lowest-of .ensures) ∙ passed .if1 .left),
-      ap (λ (d : Detector). length (d .lock .ring)) (handed-back k) ∙ pushed-ring (detectorIn (now (a .state))) (now (a .store)) (now (a .plane)) (shapeNamed (a .shape)) (parityNamed (a .parity)) (found-ring (now (a .state))),
+      ap (λ (d : Detector). length (d .lock .ring)) (handed-back k) ∙ pushed-ring (detectorIn (now (a .state))) (now (a .store)) (now (a .plane)) (gridNamed (a .grid)) (parityNamed (a .parity)) (found-ring (now (a .state))),
     )
 
 number-requires : tie.Need-number-requires
@@ -151,7 +176,7 @@ returns-2 c =
       (
         kept .keep .ensures ∙ ap (λ (d : Detector). keeping d (now (a .state))) (handed-back k),
         (
-          k .push .ensures .3 ∙ (λ i. pushStore (k .before .before .before .detector-in .ensures i) (now (a .store)) (now (a .plane)) (k .before .before .before .before .before .before .before .before .shape-named .ensures i)),
+          k .push .ensures .3 ∙ (λ i. pushStore (k .before .before .before .detector-in .ensures i) (now (a .store)) (now (a .plane)) (picture-is (k .before .before .before .before .before) i)),
           c .number .ensures ∙ ap cadenceNumber (value h (known .answer .given .1) refl refl),
         ),
       ),
@@ -169,7 +194,7 @@ returns-3 c =
     let k = known .before .before .before .before .before in
     let a = k .before .before .before .before .before .before .before .before .before .before .before .before .before .args in
     let h = answered k in
-    let picture = k .before .before .before .before .before .before .before .before .shape-named .result in (
+    let picture = gridShape (k .before .before .before .before .before .before .before .before .before .grid-of .result) in (
       said h (known .answer2 .given .1),
       (
         stays h (known .answer2 .given .1) refl _ _,
@@ -188,7 +213,8 @@ pub desk-detector-push-spec : {M : Type 1} → statement M
 desk-detector-push-spec =
     tie.close
     (tie.spec
-    shape-named-requires
+    grid-of-requires
+    shape-of-requires
     good-shape-requires
     lowest-of-requires
     returns

@@ -4,6 +4,9 @@ use Rattle.laws.specs.Refusal.{lowest}
 use Rattle.reel.proofs.shape_no.Statement.{statement}
 use Rattle.reel.proofs.shape_no.Tie as tie
 
+shape-of-requires : tie.Need-shape-of-requires
+shape-of-requires c κs = search needs
+
 good-shape-requires : tie.Need-good-shape-requires
 good-shape-requires c κs = search needs
 
@@ -12,7 +15,7 @@ lowest-of-requires c κs = search needs
 
 returns : tie.Need-returns
 unfolding lowest
-returns c = simp (c .lowest-of .ensures, c .before .good-shape .ensures)
+returns c = simp (c .lowest-of .ensures, c .before .good-shape .ensures, c .before .before .shape-of .ensures)
 
 pub shape-no-spec : {M : Type 1} → statement M
-shape-no-spec = tie.close (tie.spec good-shape-requires lowest-of-requires returns)
+shape-no-spec = tie.close (tie.spec shape-of-requires good-shape-requires lowest-of-requires returns)

@@ -4,6 +4,9 @@ use borrow.Author.Needs.{needs}
 use Rattle.telecine.proofs.picture_no.Statement.{statement}
 use Rattle.telecine.proofs.picture_no.Tie as tie
 
+shape-of-requires : tie.Need-shape-of-requires
+shape-of-requires c κs = search needs
+
 good-shape-requires : tie.Need-good-shape-requires
 good-shape-requires c κs = search needs
 
@@ -26,12 +29,13 @@ returns c =
     let kept = size .before in
     let long = kept .before in
     let good = long .before in
-    simp (c .lowest-of .ensures, size .frame-bytes .ensures, kept .kept-bytes .ensures, long .plane-bytes .ensures, good .good-shape .ensures)
+    simp (c .lowest-of .ensures, size .frame-bytes .ensures, kept .kept-bytes .ensures, long .plane-bytes .ensures, good .good-shape .ensures, good .before .shape-of .ensures)
 
 pub picture-no-spec : {M : Type 1} → statement M
 picture-no-spec =
     tie.close
     (tie.spec
+    shape-of-requires
     good-shape-requires
     plane-bytes-requires
     kept-bytes-requires

@@ -1,5 +1,6 @@
 -- `telecine::Detector::push` meets its contract. Assumes nothing.
 use lib.ListN.{length}
+use Rattle.plane.specs.Plane.{gridShape}
 use Rattle.telecine.proofs.Calls.{count-done, picture-refused, picture-gave, picture-full}
 use borrow.Author.Needs.{needs}
 use Rattle.telecine.proofs.Detector.push.Statement.{statement}
@@ -12,14 +13,14 @@ returns : tie.Need-returns
 returns c =
     let judged = c .before in
     let a = judged .before .before .before .before .args in
-    picture-refused (a .self) (a .store .now) (a .plane .now) (a .shape) (a .first) (judged .picture-no .ensures) (c .if1 .taken)
+    picture-refused (a .self) (a .store .now) (a .plane .now) (gridShape (a .grid)) (a .first) (judged .picture-no .ensures) (c .if1 .taken)
 
 seen-picture-requires : tie.Need-seen-picture-requires
 seen-picture-requires c κs =
     let passed = c .before in
     let judged = passed .before in
     let a = judged .before .before .before .before .args in
-    count-done (a .self .kept) (a .shape) (length (a .plane .now)) (length (a .store .now)) (judged .picture-no .ensures) (passed .if1 .left)
+    count-done (a .self .kept) (gridShape (a .grid)) (length (a .plane .now)) (length (a .store .now)) (judged .picture-no .ensures) (passed .if1 .left)
 
 push-requires : tie.Need-push-requires
 push-requires c κs = search needs
@@ -46,7 +47,7 @@ returns-2 c =
     let judged = passed .before in
     let a = judged .before .before .before .before .args in
     let e = pushed .push .ensures in
-    picture-gave (a .self) (a .store .now) (a .plane .now) (a .shape) (a .first) (judged .picture-no .ensures) (passed .if1 .left) (looked .seen-picture .ensures)
+    picture-gave (a .self) (a .store .now) (a .plane .now) (gridShape (a .grid)) (a .first) (judged .picture-no .ensures) (passed .if1 .left) (looked .seen-picture .ensures)
     (record { lock-is = e .0; number-is = e .1; values-are = e .2 }) (known .answer .given .1) (kept .keep .ensures .1)
 
 same-length-2 : tie.Need-same-length-2
@@ -61,7 +62,7 @@ returns-3 c =
     let judged = passed .before in
     let a = judged .before .before .before .before .args in
     let e = pushed .push .ensures in
-    picture-full (a .self) (a .store .now) (a .plane .now) (a .shape) (a .first) (judged .picture-no .ensures) (passed .if1 .left) (looked .seen-picture .ensures)
+    picture-full (a .self) (a .store .now) (a .plane .now) (gridShape (a .grid)) (a .first) (judged .picture-no .ensures) (passed .if1 .left) (looked .seen-picture .ensures)
     (record { lock-is = e .0; number-is = e .1; values-are = e .2 }) (known .answer2 .given .1)
 
 pub push-spec : {M : Type 1} → statement M

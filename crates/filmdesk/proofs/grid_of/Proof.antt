@@ -1,0 +1,20 @@
+-- `filmdesk::grid_of` meets its contract. Assumes nothing.
+use borrow.Author.Needs.{needs}
+use Rattle.filmdesk.proofs.grid_of.Statement.{statement}
+use Rattle.filmdesk.proofs.grid_of.Tie as tie
+
+at-most-65535-requires : tie.Need-at-most-65535-requires
+at-most-65535-requires c κs = search needs
+
+at-most-65535-requires-2 : tie.Need-at-most-65535-requires-2
+at-most-65535-requires-2 c κs = search needs
+
+at-most-255-requires : tie.Need-at-most-255-requires
+at-most-255-requires c κs = search needs
+
+returns : tie.Need-returns
+returns c = cc
+
+pub grid-of-spec : {M : Type 1} → statement M
+grid-of-spec =
+    tie.close (tie.spec at-most-65535-requires at-most-65535-requires-2 at-most-255-requires returns)
