@@ -48,11 +48,15 @@ fn faults(page: &str, root: &Path) -> Vec<String> {
                 .map(|fault| format!("note {number}: {fault}")),
         );
     }
-    let picture = text
-        .split_once("![")
-        .and_then(|(_, after)| between(after, "](", ")"));
-    if !picture.is_some_and(|picture| root.join("docs").join(picture).is_file()) {
-        faults.push(format!("its picture {picture:?} is missing"));
+    let pictures: Vec<_> = text.split("![").skip(1).collect();
+    if pictures.is_empty() {
+        faults.push("has no picture".to_owned());
+    }
+    for after in pictures {
+        let picture = between(after, "](", ")");
+        if !picture.is_some_and(|picture| root.join("docs").join(picture).is_file()) {
+            faults.push(format!("its picture {picture:?} is missing"));
+        }
     }
     faults
 }
@@ -248,6 +252,10 @@ fn every_fault_is_found() {
         ("(DIFFERENCES.md)", "(DIFFERENCE.md)"),
         ("(pulldown.svg)", "(pulldowns.svg)"),
         ("![Woven](pulldown.svg)", ""),
+        (
+            "![Woven](pulldown.svg)",
+            "![Woven](pulldown.svg)\n\n![Cut](quiet-cuts.svg)",
+        ),
         ("- Does not cover: the deck.\n", ""),
     ];
     for (right, wrong) in changes {

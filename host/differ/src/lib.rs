@@ -6,10 +6,12 @@
 //! [`lent`] make its inputs and its buffers, [`judge`] says which number
 //! document 01 gives, and [`runs`] lists the runs, one for each call.
 //! [`program`] starts the program `cadence`, for the runs over whole reel files.
-//! [`answers`] makes the list that the program `replay` goes through.
+//! [`answers`] makes the list that the program `replay` goes through. [`shots`]
+//! makes shots as they come to tape, and [`cuts`] puts them to both detectors.
 
 pub mod answers;
 pub mod case;
+pub mod cuts;
 pub mod given;
 pub mod judge;
 pub mod lent;
@@ -17,3 +19,4 @@ pub mod plane;
 pub mod program;
 pub mod random;
 pub mod runs;
+pub mod shots;

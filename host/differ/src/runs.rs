@@ -13,7 +13,7 @@ pub mod comb_rgba;
 pub mod detector;
 pub mod edge;
 mod fields;
-mod film;
+pub(crate) mod film;
 pub mod first_field;
 pub mod luma;
 pub mod picture;

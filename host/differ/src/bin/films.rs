@@ -1,17 +1,21 @@
 //! Puts two telecined films (host/differ/data), and splices of them, to the
 //! program `cadence` and to the second reader (crate `reader`): both must print
-//! what document 01 lets one expect of clean pattern, line by line.
+//! what document 01 lets one expect of clean pattern, line by line. Then come
+//! shots that are made here, at full size (differ's `cuts`): cuts that are not
+//! seen at once, and film that is not found. They are put to the exported
+//! detector and to the original's.
 //!
 //!     films                   target/bin/cadence, started as ./run starts it
 //!     films PROGRAM ARGUMENT  another program
 //!
-//! Prints a line for each film and for each five splices. Ends with 1 at the
-//! first difference; with 2 where there is no program to start.
+//! Prints a line for each film, each five splices and each kind of shot. Ends
+//! with 1 at the first difference; with 2 where there is no program to start.
 
 use std::fmt::Write;
 use std::process::ExitCode;
 
 use differ::case::Difference;
+use differ::cuts::{self, LOCKS_AT, Recovery, recovery};
 use differ::program::{Program, same_lines};
 use reader::reel::Reel;
 
@@ -79,42 +83,8 @@ fn splices() -> Vec<Splice> {
 
 // ---- What is expected of them
 
-/// Document 01's table: what is expected at each step, and its cadence.
-const STEPS: [(&str, &str); 5] = [
-    ("moved", "whole"),
-    ("moved", "whole"),
-    ("repeat first", "drop"),
-    ("moved", "spanning"),
-    ("repeat second", "spanning"),
-];
-
-/// Document 01's cards: a clean run that starts at this step locks at this
-/// frame of its own, the first being 1.
-const LOCKS_AT: [usize; 5] = [11, 10, 9, 13, 12];
-
-/// When the lock ended, if it did, and when it came again.
-#[derive(Debug, Clone, Copy, PartialEq, Eq)]
-struct Recovery {
-    lost: usize,
-    back: usize,
-}
-
-/// What a splice does to the lock. Its first frame has moved, whichever step it
-/// is at, since it is compared with a picture of the other film; those after it
-/// are in the new pattern. The lock ends where the old pattern expects another.
-fn recovery(cut: usize, offset: usize) -> Option<Recovery> {
-    let symbol = |n: usize| match n - cut {
-        0 => "moved",
-        after => STEPS[(offset + after) % 5].0,
-    };
-    // After five frames in the new pattern no other place can come.
-    let lost = (cut..cut + 6).find(|n| symbol(*n) != STEPS[n % 5].0)?;
-    let step = (offset + lost + 1 - cut) % 5;
-    Some(Recovery {
-        lost,
-        back: lost + LOCKS_AT[step],
-    })
-}
+/// Document 01's table: the cadence of each step.
+const CADENCES: [&str; 5] = ["whole", "whole", "drop", "spanning", "spanning"];
 
 /// The listing of a film, spliced or not: locked all along, but for the start
 /// and for the frames from `lost` to before `back`.
@@ -129,7 +99,7 @@ fn expected(frames: usize, cut: usize, offset: usize, recovery: Option<Recovery>
         // Until it is lost, the lock is that of the old pattern.
         let old = n < cut || recovery.is_some_and(|found| n < found.lost);
         let step = if old { n } else { offset + n - cut } % 5;
-        let cadence = if locked { STEPS[step].1 } else { "none" };
+        let cadence = if locked { CADENCES[step] } else { "none" };
         let names = ["whole", "drop", "spanning", "none"];
         let place = names.iter().position(|name| *name == cadence);
         totals[place.expect("one of the four")] += 1;
@@ -200,7 +170,7 @@ fn all(program: &Program) -> Result<(), String> {
         "at the latest, locked again {after_lost} frames after the one that contradicted, \
          {after_splice} after the first of the splice"
     );
-    Ok(())
+    cuts::all()
 }
 
 fn main() -> ExitCode {
@@ -222,10 +192,7 @@ fn main() -> ExitCode {
 
 #[cfg(test)]
 mod tests {
-    use super::{
-        FILMS, Recovery, Reel, SHAPE, expected_of_film, expected_of_splice, pictures, recovery,
-        splices,
-    };
+    use super::{FILMS, Reel, SHAPE, expected_of_film, expected_of_splice, pictures, splices};
     use reader::listing;
 
     #[test]
@@ -251,16 +218,5 @@ mod tests {
             let (cut, offset) = (splice.cut, splice.offset);
             assert_eq!(listing(&reel.bytes()), wanted, "{cut}, {offset}");
         }
-    }
-
-    #[test]
-    fn a_splice_is_lost_where_the_patterns_part() {
-        // The same step goes on, where a moved frame is expected.
-        assert_eq!(recovery(30, 0), None);
-        assert_eq!(recovery(31, 1), None);
-        // It goes on, but its first frame was to repeat a field.
-        assert_eq!(recovery(32, 2), Some(Recovery { lost: 32, back: 45 }));
-        // The new film repeats a field at once, the old one a frame later.
-        assert_eq!(recovery(30, 1), Some(Recovery { lost: 31, back: 44 }));
     }
 }

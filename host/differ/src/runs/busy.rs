@@ -31,7 +31,13 @@ type Counts = (u64, u64);
 /// "A sample differs when the difference is over 8. A block is 16 columns by 8
 /// field rows, smaller at the edges; it is busy when 4 times its differing
 /// samples exceed its size."
-fn by_reading(now: &[u8], then: &[u8], width: usize, height: usize, parity: u8) -> Counts {
+pub(crate) fn by_reading(
+    now: &[u8],
+    then: &[u8],
+    width: usize,
+    height: usize,
+    parity: u8,
+) -> Counts {
     let rows: Vec<usize> = (usize::from(parity)..height).step_by(2).collect();
     let columns: Vec<usize> = (0..width).collect();
     let (mut busy, mut total) = (0, 0);
