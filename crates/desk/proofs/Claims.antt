@@ -1,16 +1,7 @@
--- The claims of specs/Claims.antt. Assumes nothing.
-use Prim.Native.Nat.{ℕ, _≤_, min}
-use mathlib.Core.Path.{_≡_, refl, sym, subst}
-use mathlib.Core.Bool.{Bool, true}
-use native.Mathlib.Omega.{arith}
+-- The claims of specs/Claims.antt: the numbers of every list rise. Assumes nothing.
 use Rattle.laws.specs.Refusal.{rising}
 use Rattle.laws.proofs.Claims.{lowest-says}
-use Rattle.plane.specs.declared.Shape.{Shape}
-use Rattle.plane.specs.Plane.{goodShape}
-use Rattle.plane.proofs.Bounds.{good-within}
-use Rattle.desk.specs.declared.planes.PlaneNumbers.{PlaneNumbers}
-use Rattle.desk.specs.Planes.{layoutNamed, shapeNamed}
-use Rattle.desk.specs.Claims.{FirstFieldSays, CodeSays, AtSays, asGiven, Alike, NamedAlike}
+use Rattle.desk.specs.Claims.{FirstFieldSays, CodeSays, AtSays, CombSays, CombRgbaSays, EdgeSays, SampleSays, PlaneSays, ToRgbSays, LumaSays}
 
 pub first-field-says : FirstFieldSays
 unfolding rising
@@ -24,28 +15,30 @@ pub at-says : AtSays
 unfolding rising
 at-says n bytes x y = lowest-says _ tt
 
--- ---- a number whose cut value is within the bounds is not cut
-same : (n : PlaneNumbers) → min (n .width) 65535 ≤ 8192 → min (n .height) 65535 ≤ 4352 → min (n .depth) 255 ≤ 16 → shapeNamed n ≡ asGiven n
-same n w h d =
-    let width : min (n .width) 65535 ≡ n .width = omega arith in
-    let height : min (n .height) 65535 ≡ n .height = omega arith in
-    let depth : min (n .depth) 255 ≡ n .depth = omega arith in
-    λ i. record { width = width i; height = height i; depth = depth i; stride = n .stride; layout = layoutNamed (n .layout) }
+pub comb-says : CombSays
+unfolding rising
+comb-says width height depth stride bytes = lowest-says _ tt
 
-same-named : (n : PlaneNumbers) → goodShape (shapeNamed n) ≡ true → shapeNamed n ≡ asGiven n
-same-named n g = let b = good-within (shapeNamed n) g in same n (b .width-most) (b .height-most) (b .depth-most)
+pub comb-rgba-says : CombRgbaSays
+unfolding rising
+comb-rgba-says width height bytes = lowest-says _ tt
 
-same-given : (n : PlaneNumbers) → goodShape (asGiven n) ≡ true → shapeNamed n ≡ asGiven n
-same-given n g =
-    let b = good-within (asGiven n) g in
-    let w : n .width ≤ 8192 = b .width-most in
-    let h : n .height ≤ 4352 = b .height-most in
-    let d : n .depth ≤ 16 = b .depth-most in
-    same n (omega arith) (omega arith) (omega arith)
+pub edge-says : EdgeSays
+unfolding rising
+edge-says n bytes x y = lowest-says _ tt
 
-pub named-alike : NamedAlike
-named-alike n = record {
-  verdict =
-      (λ g. subst (λ (s : Shape). goodShape s ≡ true) (same-named n g) g, λ g. subst (λ (s : Shape). goodShape s ≡ true) (sym (same-given n g)) g);
-  shape = same-named n;
-}
+pub sample-says : SampleSays
+unfolding rising
+sample-says quality rows before before-bytes cur cur-bytes after after-bytes x y = lowest-says _ tt
+
+pub plane-says : PlaneSays
+unfolding rising
+plane-says quality first before before-bytes cur cur-bytes after after-bytes room = lowest-says _ tt
+
+pub to-rgb-says : ToRgbSays
+unfolding rising
+to-rgb-says conversion y cb cr = lowest-says _ tt
+
+pub luma-says : LumaSays
+unfolding rising
+luma-says primaries = lowest-says _ tt

@@ -1,2 +1,3 @@
 -- Assumes nothing.
+pub mod Cut
 pub mod Claims

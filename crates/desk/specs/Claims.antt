@@ -1,36 +1,50 @@
--- What the exported functions' contracts come to. proofs/Claims.antt proves each claim under its name in small letters. Assumes nothing.
+-- What the exported functions' contracts come to: each number is 0 exactly when no test of the call's own list fails, and n exactly when a test of n
+-- fails and none of a lower number does. The numbers are those that the host gives, however large. `desk_quantise` refuses nothing.
+-- proofs/Claims.antt proves each claim under its name in small letters. Assumes nothing.
 use Prim.Native.Nat.{ℕ}
-use mathlib.Core.Path.{_≡_}
-use mathlib.Core.Logic.{_↔_}
-use mathlib.Core.Bool.{true}
 use lib.IntN.{ℤ}
+use lib.Ieee.{Float}
 use Rattle.laws.specs.Refusal.{Says}
-use Rattle.plane.specs.declared.Shape.{Shape}
-use Rattle.plane.specs.Plane.{goodShape}
-use Rattle.plane.specs.Answer.{codeTests, atTests}
+use Rattle.filter.specs.declared.Rows.{Rows}
+use Rattle.colour.specs.declared.Conversion.{Conversion}
+use Rattle.colour.specs.Answer.{toRgbTests}
+use Rattle.comb.specs.Answer.{combTests, rgbaTests}
 use Rattle.desk.specs.declared.planes.PlaneNumbers.{PlaneNumbers}
 use Rattle.desk.specs.Fields.{firstFieldTests}
-use Rattle.desk.specs.Planes.{layoutNamed, shapeNamed, named}
+use Rattle.desk.specs.Planes.{codeTests, atTests}
+use Rattle.desk.specs.Filters.{edgeTests, sampleTests, planeTests}
+use Rattle.desk.specs.Colours.{lumaTests}
 
--- The number is 0 exactly when no test fails, and n exactly when a test of n fails and none of a lower number does.
 abbrev pub FirstFieldSays : Type 0
 FirstFieldSays = (structure top-field-first : ℕ) → Says (firstFieldTests structure top-field-first)
 
 abbrev pub CodeSays : Type 0
-CodeSays = (n : PlaneNumbers) (bytes : ℕ) (x y : ℤ) → Says (named (n .layout) (codeTests (shapeNamed n) bytes x y))
+CodeSays = (n : PlaneNumbers) (bytes : ℕ) (x y : ℤ) → Says (codeTests n bytes x y)
 
 abbrev pub AtSays : Type 0
-AtSays = (n : PlaneNumbers) (bytes : ℕ) (x y : ℤ) → Says (named (n .layout) (atTests (shapeNamed n) bytes x y))
+AtSays = (n : PlaneNumbers) (bytes : ℕ) (x y : ℤ) → Says (atTests n bytes x y)
 
--- the shape as the numbers give it, however large they are
-abbrev pub asGiven : PlaneNumbers → Shape
-asGiven n = record { width = n .width; height = n .height; depth = n .depth; stride = n .stride; layout = layoutNamed (n .layout) }
+abbrev pub CombSays : Type 0
+CombSays = (width height depth stride bytes : ℕ) → Says (combTests width height depth stride bytes)
 
--- Numbers too large for their places change no verdict: the shape that is named is within the bounds exactly when the shape as given is, and
--- then the two are one.
-pub record Alike (n : PlaneNumbers) : Type 0 where
-  pub verdict : (goodShape (shapeNamed n) ≡ true) ↔ (goodShape (asGiven n) ≡ true)
-  pub shape : goodShape (shapeNamed n) ≡ true → shapeNamed n ≡ asGiven n
+abbrev pub CombRgbaSays : Type 0
+CombRgbaSays = (width height bytes : ℕ) → Says (rgbaTests width height bytes)
 
-abbrev pub NamedAlike : Type 0
-NamedAlike = (n : PlaneNumbers) → Alike n
+abbrev pub EdgeSays : Type 0
+EdgeSays = (n : PlaneNumbers) (bytes : ℕ) (x y : ℤ) → Says (edgeTests n bytes x y)
+
+abbrev pub SampleSays : Type 0
+SampleSays =
+    (quality : ℕ) (rows : Rows) (before : PlaneNumbers) (before-bytes : ℕ) (cur : PlaneNumbers) (cur-bytes : ℕ) (after : PlaneNumbers) (after-bytes : ℕ)
+    (x y : ℤ) → Says (sampleTests quality rows before before-bytes cur cur-bytes after after-bytes x y)
+
+abbrev pub PlaneSays : Type 0
+PlaneSays =
+    (quality first : ℕ) (before : PlaneNumbers) (before-bytes : ℕ) (cur : PlaneNumbers) (cur-bytes : ℕ) (after : PlaneNumbers) (after-bytes room : ℕ)
+    → Says (planeTests quality first before before-bytes cur cur-bytes after after-bytes room)
+
+abbrev pub ToRgbSays : Type 0
+ToRgbSays = (conversion : Conversion) (y cb cr : Float) → Says (toRgbTests conversion y cb cr)
+
+abbrev pub LumaSays : Type 0
+LumaSays = (primaries : ℕ) → Says (lumaTests primaries)

@@ -1,7 +1,7 @@
 -- The definitions that the exported functions' contracts cite. Assumes nothing.
 pub mod Fields
 pub mod Planes
-pub mod Combs
 pub mod Filters
 pub mod Colours
+pub mod Inner
 pub mod Claims

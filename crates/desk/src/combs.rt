@@ -1,11 +1,10 @@
 // Comb by number. Assumes nothing.
 use crate::planes;
 ghost use mathlib.Core.Path.{_≡_};
-ghost use Prim.Native.Nat.{min};
 ghost use lib.ListN.{length};
 ghost use Rattle.laws.specs.Refusal.{written};
 ghost use Rattle.comb.specs.Comb.{planeComb, rgbaComb};
-ghost use Rattle.desk.specs.Combs.{combNo, rgbaNo};
+ghost use Rattle.comb.specs.Answer.{combNo, rgbaNo};
 
 // The comb of a plane whose codes are read as they stand. Numbers 4 and 6.
 #[no_mangle]
@@ -18,7 +17,7 @@ pub extern "C" fn desk_comb(
     total: &mut u64,
 ) -> u8
     ensures { λ r. ⌜ r ≡ combNo width height depth stride (length (now (plane .entry))) ⌝ }
-    ensures { λ _. ⌜ now (total .exit) ≡ written (combNo width height depth stride (length (now (plane .entry)))) (planeComb (now (plane .entry)) (min width 65535) (min height 65535) (min depth 255) stride) (now (total .entry)) ⌝ }
+    ensures { λ _. ⌜ now (total .exit) ≡ written (combNo width height depth stride (length (now (plane .entry)))) (planeComb (now (plane .entry)) width height depth stride) (now (total .entry)) ⌝ }
 {
     let columns = planes::at_most_65535(width);
     let rows = planes::at_most_65535(height);
@@ -36,7 +35,7 @@ pub extern "C" fn desk_comb(
 #[no_mangle]
 pub extern "C" fn desk_comb_rgba(rgba: &[u8], width: u32, height: u32, total: &mut u64) -> u8
     ensures { λ r. ⌜ r ≡ rgbaNo width height (length (now (rgba .entry))) ⌝ }
-    ensures { λ _. ⌜ now (total .exit) ≡ written (rgbaNo width height (length (now (rgba .entry)))) (rgbaComb (now (rgba .entry)) (min width 65535) (min height 65535)) (now (total .entry)) ⌝ }
+    ensures { λ _. ⌜ now (total .exit) ≡ written (rgbaNo width height (length (now (rgba .entry)))) (rgbaComb (now (rgba .entry)) width height) (now (total .entry)) ⌝ }
 {
     let columns = planes::at_most_65535(width);
     let rows = planes::at_most_65535(height);

@@ -6,7 +6,9 @@ ghost use lib.IntN.{natAbs};
 ghost use lib.ListN.{length};
 ghost use Rattle.laws.specs.Refusal.{written};
 ghost use Rattle.plane.specs.Plane.{codeOf, valueOf};
+ghost use Rattle.plane.specs.Coordinates.{inside};
 ghost use Rattle.desk.specs.Planes.{layoutNamed, shapeNamed, codeNo, atNo};
+ghost use Rattle.desk.specs.Inner.{cut};
 
 // A plane's shape as the host gives it: sizes in samples, the stride in bytes, and the layout by its
 // code: 0 planar, 1 the luma of a biplanar frame, 2 and 3 the first and the second of two components
@@ -49,9 +51,9 @@ pub fn at_most_255(n: u32) -> u8
 }
 
 // The shape that the numbers name. One too large for its place counts as the largest there, which is
-// out of bounds too.
+// out of bounds too, so that no number of a call changes by it.
 pub fn shape_named(numbers: PlaneNumbers) -> plane::Shape
-    ensures { λ r. ⌜ r ≡ shapeNamed numbers ⌝ }
+    ensures { λ r. ⌜ r ≡ cut (shapeNamed numbers) ⌝ }
 {
     let layout = layout_named(numbers.layout);
     let width = at_most_65535(numbers.width);
@@ -66,22 +68,41 @@ pub fn shape_named(numbers: PlaneNumbers) -> plane::Shape
     }
 }
 
+// Whether a coordinate lies in a plane of this size, as large as the host says it is.
+fn is_inside(x: i32, size: u32) -> bool
+    ensures { λ r. ⌜ r ≡ inside size x ⌝ }
+{
+    (0 <= x) & ((x as i64) < size as i64)
+}
+
+// The number of `desk_code`. Its coordinates are judged before the shape, so by the sizes as given.
+fn code_no(shape: PlaneNumbers, bytes: usize, x: i32, y: i32) -> u8
+    ensures { λ r. ⌜ r ≡ codeNo shape bytes x y ⌝ }
+{
+    let inner = is_inside(x, shape.width) & is_inside(y, shape.height);
+    let held = shape_named(shape);
+    refusal::lowest_of(
+        (shape.layout <= 3) & inner,
+        plane::good_shape(held),
+        true,
+        plane::plane_bytes(held) <= bytes,
+        true,
+        true,
+    )
+}
+
 // The code at a place inside the plane. Numbers 3, 4 and 6.
 #[no_mangle]
 pub extern "C" fn desk_code(plane: &[u8], shape: PlaneNumbers, x: i32, y: i32, code: &mut u16) -> u8
     ensures { λ r. ⌜ r ≡ codeNo shape (length (now (plane .entry))) x y ⌝ }
     ensures { λ _. ⌜ now (code .exit) ≡ written (codeNo shape (length (now (plane .entry))) x y) (codeOf (now (plane .entry)) (shapeNamed shape) (natAbs x) (natAbs y)) (now (code .entry)) ⌝ }
 {
-    if 3 < shape.layout {
-        return refusal::OUTSIDE;
+    let no = code_no(shape, plane.len(), x, y);
+    if no != 0 {
+        return no;
     }
-    match plane::code(plane, shape_named(shape), x, y) {
-        plane::Coded::Value(found) => {
-            *code = found;
-            0
-        }
-        plane::Coded::Refused(no) => no,
-    }
+    *code = plane::code_at(plane, shape_named(shape), x as u16, y as u16);
+    0
 }
 
 // The value at coordinates from -65,536 to 65,536, each clamped to the plane. Numbers 3, 4 and 6.

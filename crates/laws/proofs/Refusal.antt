@@ -8,7 +8,7 @@ use mathlib.Core.List.{List, [], _∷_, nil≢cons}
 use native.Mathlib.Nat.{le-trans, le-antisymm, le-of-eq}
 use native.Mathlib.Omega.{arith}
 use lib.Dec.{T, leb, eqb, leb→le, lit<}
-use borrow.Author.Tests.{ne-eqb}
+use borrow.Author.Tests.{eqb-true, ne-eqb}
 use Rattle.laws.specs.Refusal.{lowest, whenDone, written, rising, Applies, Lowest, Says}
 
 -- ---- both halves of a conjunction that holds
@@ -167,3 +167,35 @@ pub number-behind :
     (n : ℕ) {passes : Bool} {tests tests′ : List (ℕ × Bool)} → passes ≡ true → tests′ ≡ tests → lowest tests′ ≡ lowest ((n, passes) ∷ tests)
 unfolding lowest
 number-behind n {passes} {tests} {tests′} h e = ap lowest e ∙ ap (λ (b : Bool). cond b (lowest tests) n) (sym h)
+
+-- ---- two calls whose tests agree up to the first that fails have the same number, and write the same
+-- one test more in front of both
+pub lowest-behind :
+    (n : ℕ) (passes : Bool) (tests tests′ : List (ℕ × Bool)) → lowest tests ≡ lowest tests′ → lowest ((n, passes) ∷ tests) ≡ lowest ((n, passes) ∷ tests′)
+unfolding lowest
+lowest-behind n passes tests tests′ e = ap (λ (l : ℕ). cond passes l n) e
+
+-- The first tests give one verdict. Where it is that they pass, the calls are alike; what stands behind a test that fails is not looked at.
+pub lowest-alike :
+    (n : ℕ) {p q : Bool} (tests tests′ : List (ℕ × Bool)) → p ≡ q → (q ≡ true → lowest ((n, p) ∷ tests) ≡ lowest ((n, q) ∷ tests′)) →
+    lowest ((n, p) ∷ tests) ≡ lowest ((n, q) ∷ tests′)
+unfolding lowest
+lowest-alike n {p} {q} tests tests′ verdict same = settled q refl
+  where
+    settled : (b : Bool) → q ≡ b → cond p (lowest tests) n ≡ cond q (lowest tests′) n
+    settled true e = same e
+    settled false e = rw (verdict, e) refl
+
+-- a test of two halves is two tests of one number
+pub lowest-halves : (n : ℕ) (a b : Bool) (tests : List (ℕ × Bool)) → lowest ((n, a && b) ∷ tests) ≡ lowest ((n, a) ∷ (n, b) ∷ tests)
+unfolding lowest
+lowest-halves n true b tests = refl
+lowest-halves n false b tests = refl
+
+-- values that are one where the call is done
+pub written-alike : {A : Type 0} (n : ℕ) {new new′ : A} (old : A) → (n ≡ 0 → new ≡ new′) → written n new old ≡ written n new′ old
+written-alike {A} n {new} {new′} old same = settled (eqb n 0) (λ e. same (eqb-true n 0 e))
+  where
+    settled : (b : Bool) → (b ≡ true → new ≡ new′) → cond b new old ≡ cond b new′ old
+    settled true s = s refl
+    settled false s = refl

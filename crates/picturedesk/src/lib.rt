@@ -9,6 +9,7 @@ ghost use Rattle.laws.specs.Refusal.{written};
 ghost use Rattle.laws.specs.Rows.{over};
 ghost use Rattle.picture.specs.Picture.{frameOf, pictureOf};
 ghost use Rattle.desk.specs.Filters.{qualityNamed};
+ghost use Rattle.picturedesk.specs.Inner.{cutPlanes};
 ghost use Rattle.picturedesk.specs.Pictures.{chosenNamed, sourceNamed, outputNamed, planesNamed, layoutsNamed, outputGood, allNamed, pictureNamedNo};
 
 // The three planes of a frame.
@@ -78,7 +79,7 @@ fn output_good(n: OutputNumbers) -> bool
 }
 
 fn planes_named(n: FrameNumbers) -> plane::Planes
-    ensures { λ r. ⌜ r ≡ planesNamed n ⌝ }
+    ensures { λ r. ⌜ r ≡ cutPlanes (planesNamed n) ⌝ }
 {
     let luma = planes::shape_named(n.luma);
     let cb = planes::shape_named(n.cb);

@@ -64,14 +64,11 @@ pub fn at(shape: PlaneNumbers, length: usize, x: i32, y: i32) -> u8 {
     read(shape, length, !taken.contains(&x) || !taken.contains(&y))
 }
 
-/// "`code` takes only coordinates inside the plane." A size above 65,535 counts
-/// as 65,535 here: of such a plane, which is out of bounds anyway, the desk
-/// says 3 of a coordinate from 65,535 on, where document 01 would have 4.
+/// "`code` takes only coordinates inside the plane", as large as it is said to
+/// be.
 pub fn code(shape: PlaneNumbers, length: usize, x: i32, y: i32) -> u8 {
-    let inside = |coordinate: i32, size: u32| {
-        let size = i64::from(size.min(65_535));
-        (0..size).contains(&i64::from(coordinate))
-    };
+    let inside =
+        |coordinate: i32, size: u32| (0..i64::from(size)).contains(&i64::from(coordinate));
     let outside = !inside(x, shape.width) || !inside(y, shape.height);
     read(shape, length, outside)
 }
@@ -220,6 +217,16 @@ mod tests {
         assert_eq!((at(unnamed, 0, 0, 0), code(unnamed, 0, 0, 0)), (3, 3));
         let empty = PlaneNumbers { width: 0, ..GOOD };
         assert_eq!((at(empty, 99, 0, 0), code(empty, 99, 0, 0)), (4, 3));
+        let wide = PlaneNumbers {
+            width: 65_537,
+            ..GOOD
+        };
+        assert_eq!((code(wide, 99, 65_536, 0), code(wide, 99, 65_537, 0)), (4, 3));
+        let high = PlaneNumbers {
+            height: u32::MAX,
+            ..GOOD
+        };
+        assert_eq!((code(high, 99, 0, i32::MAX), code(high, 99, 0, -1)), (4, 3));
     }
 
     #[test]

@@ -1,11 +1,13 @@
--- `desk::combs::desk_comb` meets its contract. Assumes nothing.
-use mathlib.Core.Path.{refl}
+-- `desk::combs::desk_comb` meets its contract: numbers are cut to their places, and the rest is `comb::comb`'s own answer. Assumes nothing.
+use Prim.Native.Nat.{ℕ}
+use mathlib.Core.Path.{refl, _∙_}
 use lib.ListN.{length}
 use denote.Ref.{now}
 use Rattle.laws.proofs.Refusal.{handed-value, handed-refusal}
 use Rattle.comb.specs.Comb.{planeComb}
 use Rattle.comb.specs.Answer.{combedNo, combedValues, combNo}
 use borrow.Author.Needs.{needs}
+use Rattle.desk.proofs.Cut.{comb-number, comb-value}
 use Rattle.desk.proofs.combs.desk_comb.Statement.{statement}
 use Rattle.desk.proofs.combs.desk_comb.Tie as tie
 
@@ -34,10 +36,18 @@ returns c =
     let columns = k .before .before .before .at-most-65535 .ensures in
     let rows = k .before .before .at-most-655352 .ensures in
     let bits = k .before .at-most-255 .ensures in
+    let done =
     handed-value combedNo combedValues (c .before .found .given .1)
-    (λ i. combNo (columns i) (rows i) (bits i) (a .stride) (length (now (a .plane))))
+    ((λ i. combNo (columns i) (rows i) (bits i) (a .stride) (length (now (a .plane))))
+    ∙ comb-number (a .width) (a .height) (a .depth) (a .stride) (length (now (a .plane))))
     (λ i. planeComb (now (a .plane)) (columns i) (rows i) (bits i) (a .stride))
     _ refl refl (k .comb .ensures .0) (k .comb .ensures .1)
+    in (
+      done .0,
+      done .1
+          ∙ comb-value (a .width) (a .height) (a .depth) (a .stride) (length (now (a .plane)))
+          (λ (w h d : ℕ). planeComb (now (a .plane)) w h d (a .stride)) _,
+    )
 
 returns-2 : tie.Need-returns-2
 returns-2 c =
@@ -47,7 +57,8 @@ returns-2 c =
     let rows = k .before .before .at-most-655352 .ensures in
     let bits = k .before .at-most-255 .ensures in
     handed-refusal combedNo combedValues (c .before .no .given .1)
-    (λ i. combNo (columns i) (rows i) (bits i) (a .stride) (length (now (a .plane))))
+    ((λ i. combNo (columns i) (rows i) (bits i) (a .stride) (length (now (a .plane))))
+    ∙ comb-number (a .width) (a .height) (a .depth) (a .stride) (length (now (a .plane))))
     (λ i. planeComb (now (a .plane)) (columns i) (rows i) (bits i) (a .stride))
     _ _ refl refl (k .comb .ensures .0) (k .comb .ensures .1)
 

@@ -1,11 +1,14 @@
--- `desk::combs::desk_comb_rgba` meets its contract. Assumes nothing.
-use mathlib.Core.Path.{refl}
+-- `desk::combs::desk_comb_rgba` meets its contract: numbers are cut to their places, and the rest is `comb::comb_rgba`'s own answer.
+-- Assumes nothing.
+use Prim.Native.Nat.{ℕ}
+use mathlib.Core.Path.{refl, _∙_}
 use lib.ListN.{length}
 use denote.Ref.{now}
 use Rattle.laws.proofs.Refusal.{handed-value, handed-refusal}
 use Rattle.comb.specs.Comb.{rgbaComb}
 use Rattle.comb.specs.Answer.{combedNo, combedValues, rgbaNo}
 use borrow.Author.Needs.{needs}
+use Rattle.desk.proofs.Cut.{rgba-number, rgba-value}
 use Rattle.desk.proofs.combs.desk_comb_rgba.Statement.{statement}
 use Rattle.desk.proofs.combs.desk_comb_rgba.Tie as tie
 
@@ -30,10 +33,15 @@ returns c =
     let a = k .before .before .before .before .args in
     let columns = k .before .before .at-most-65535 .ensures in
     let rows = k .before .at-most-655352 .ensures in
+    let done =
     handed-value combedNo combedValues (c .before .green .given .1)
-    (λ i. rgbaNo (columns i) (rows i) (length (now (a .rgba))))
+    ((λ i. rgbaNo (columns i) (rows i) (length (now (a .rgba)))) ∙ rgba-number (a .width) (a .height) (length (now (a .rgba))))
     (λ i. rgbaComb (now (a .rgba)) (columns i) (rows i))
     _ refl refl (k .comb-rgba .ensures .0) (k .comb-rgba .ensures .1)
+    in (
+      done .0,
+      done .1 ∙ rgba-value (a .width) (a .height) (length (now (a .rgba))) (λ (w h : ℕ). rgbaComb (now (a .rgba)) w h) _,
+    )
 
 returns-2 : tie.Need-returns-2
 returns-2 c =
@@ -42,7 +50,7 @@ returns-2 c =
     let columns = k .before .before .at-most-65535 .ensures in
     let rows = k .before .at-most-655352 .ensures in
     handed-refusal combedNo combedValues (c .before .no .given .1)
-    (λ i. rgbaNo (columns i) (rows i) (length (now (a .rgba))))
+    ((λ i. rgbaNo (columns i) (rows i) (length (now (a .rgba)))) ∙ rgba-number (a .width) (a .height) (length (now (a .rgba))))
     (λ i. rgbaComb (now (a .rgba)) (columns i) (rows i))
     _ _ refl refl (k .comb-rgba .ensures .0) (k .comb-rgba .ensures .1)
 

@@ -5,21 +5,25 @@ use mathlib.Core.Path.{_≡_, refl, sym, ap, subst, _∙_}
 use Prim.Native.Nat.{ℕ, suc, _≤_, _<_}
 use native.Mathlib.Nat.{lt-of-le-of-lt, lt-of-lt-of-le, lt-trans}
 use native.Mathlib.Omega.{arith}
-use lib.Dec.{lit<}
+use mathlib.Core.Bool.{Bool, true, _&&_}
+use lib.Dec.{leb, lit<}
 use lib.IntN.{ℤ, pos, negsuc, natAbs}
 use mir.Syntax.{w32}
-use mir.Val.{SFits}
+use mir.Val.{SFits, toZ, ofZ}
 use lib.ListN.{length}
 use denote.Ref.{now}
 use mir.Facts.{toZ-ofZ}
 use Rattle.laws.specs.Refusal.{lowest, written}
 use Rattle.laws.proofs.Refusal.{handed-value, handed-refusal, number-behind}
+use Rattle.plane.specs.declared.Shape.{Shape}
 use Rattle.plane.specs.Plane.{valueOf}
+use Rattle.plane.specs.Coordinates.{inReach}
 use Rattle.filter.specs.Filter.{edgeOf}
 use Rattle.filter.proofs.Claims.{edge-in-reach}
 use Rattle.desk.specs.Planes.{shapeNamed}
 use Rattle.desk.specs.Filters.{edgeNo}
 use Rattle.filter.specs.Answer.{edgedNo, edgedValues, edgeTests}
+use Rattle.desk.proofs.Cut.{read-number, read-value}
 use Rattle.desk.proofs.filters.desk_edge.Statement.{statement}
 use Rattle.desk.proofs.filters.desk_edge.Tie as tie
 
@@ -46,6 +50,19 @@ small (negsuc n) h =
     let k : n < 2147483648 = omega arith in
     record { sfits = k }
 
+-- the number of the cut shape is that of the shape as given
+number :
+    (c : tie.After-edge) →
+    let a = c .before .before .before .before .before .args in
+    lowest (edgeTests (c .before .shape-named .result) (length (now (a .cur))) (toZ w32 (ofZ w32 (a .x))) (toZ w32 (ofZ w32 (a .y))))
+    ≡ edgeNo (a .shape) (length (now (a .cur))) (a .x) (a .y)
+number c =
+    let a = c .before .before .before .before .before .args in
+    let f = c .before .before .before .before .before .fits in
+    number-behind 3 (le-leb _ _ (c .before .before .if1 .left))
+    (λ i. edgeTests (c .before .shape-named .ensures i) (length (now (a .cur))) (toZ-ofZ (f .x) i) (toZ-ofZ (f .y) i))
+    ∙ read-number (leb (a .shape .layout) 3) (inReach (a .x) && inReach (a .y)) (shapeNamed (a .shape)) (length (now (a .cur)))
+
 handed : (d : tie.After-known-told) →
     let a = d .before .before .before .before .before .before .before .before .args in
     (0 ≡ edgeNo (a .shape) (length (now (a .cur))) (a .x) (a .y))
@@ -54,11 +71,16 @@ handed d =
     let c = d .before .before .before in
     let a = c .before .before .before .before .before .args in
     let f = c .before .before .before .before .before .fits in
-    handed-value edgedNo edgedValues (d .before .found .given .1)
-    (number-behind 3 (le-leb _ _ (c .before .before .if1 .left))
-    (λ i. edgeTests (c .before .shape-named .ensures i) (length (now (a .cur))) (toZ-ofZ (f .x) i) (toZ-ofZ (f .y) i)))
+    let done =
+    handed-value edgedNo edgedValues (d .before .found .given .1) (number c)
     (λ i. edgeOf (valueOf (now (a .cur)) (c .before .shape-named .ensures i)) (toZ-ofZ (f .x) i) (toZ-ofZ (f .y) i))
-    _ refl refl (c .edge .ensures .0) (c .edge .ensures .1)
+    (now (a .slant)) refl refl (c .edge .ensures .0) (c .edge .ensures .1)
+    in (
+      done .0,
+      done .1
+          ∙ read-value (leb (a .shape .layout) 3) (inReach (a .x) && inReach (a .y)) (shapeNamed (a .shape)) (length (now (a .cur)))
+          (λ (s : Shape). edgeOf (valueOf (now (a .cur)) s) (a .x) (a .y)) _,
+    )
 
 returns-2 : tie.Need-returns-2
 returns-2 d =
@@ -72,9 +94,7 @@ returns-3 d =
     let c = d .before .before .before in
     let a = c .before .before .before .before .before .args in
     let f = c .before .before .before .before .before .fits in
-    handed-refusal edgedNo edgedValues (d .before .no .given .1)
-    (number-behind 3 (le-leb _ _ (c .before .before .if1 .left))
-    (λ i. edgeTests (c .before .shape-named .ensures i) (length (now (a .cur))) (toZ-ofZ (f .x) i) (toZ-ofZ (f .y) i)))
+    handed-refusal edgedNo edgedValues (d .before .no .given .1) (number c)
     (λ i. edgeOf (valueOf (now (a .cur)) (c .before .shape-named .ensures i)) (toZ-ofZ (f .x) i) (toZ-ofZ (f .y) i))
     _ _ refl refl (c .edge .ensures .0) (c .edge .ensures .1)
 

@@ -9,9 +9,13 @@ use denote.Ref.{now}
 use Rattle.laws.specs.Refusal.{lowest, written}
 use Rattle.laws.specs.Rows.{over}
 use Rattle.laws.proofs.Refusal.{number-behind}
+use Rattle.plane.specs.declared.Shape.{Shape}
 use Rattle.plane.specs.Plane.{valueOf}
 use Rattle.fill.specs.Fill.{linesOf, planeTests, fieldRows}
-use Rattle.desk.specs.Filters.{allNamed}
+use Rattle.field.specs.Field.{parityNamed}
+use Rattle.desk.specs.Planes.{shapeNamed}
+use Rattle.desk.specs.Filters.{qualityNamed, allNamed}
+use Rattle.desk.proofs.Cut.{plane-number, plane-value}
 use Rattle.desk.proofs.filters.desk_plane.Statement.{statement}
 use Rattle.desk.proofs.filters.desk_plane.Tie as tie
 
@@ -58,10 +62,18 @@ returns-2 c =
     let number =
     number-behind 3 named
     (λ i. planeTests (b i) (length (now (a .before))) (m i) (length (now (a .cur))) (e i) (length (now (a .after))) (length (now (a .out))))
+    ∙ plane-number (shapeNamed (a .before-shape)) (shapeNamed (a .cur-shape)) (shapeNamed (a .after-shape))
+    (allNamed (a .quality) (a .before-shape) (a .cur-shape) (a .after-shape) && leb (a .first) 1) (length (now (a .before))) (length (now (a .cur)))
+    (length (now (a .after))) (length (now (a .out)))
     in (
       k .plane .ensures .0 ∙ number,
       k .plane .ensures .1
-          ∙ (λ i. written (number i) (over (linesOf (quality i) (fieldRows (first i)) (valueOf (now (a .before)) (b i)) (valueOf (now (a .cur)) (m i)) (valueOf (now (a .after)) (e i)) (m i .width) (m i .height)) (now (a .out))) (now (a .out))),
+          ∙ (λ i. written (number i) (over (linesOf (quality i) (fieldRows (first i)) (valueOf (now (a .before)) (b i)) (valueOf (now (a .cur)) (m i)) (valueOf (now (a .after)) (e i)) (m i .width) (m i .height)) (now (a .out))) (now (a .out)))
+          ∙ plane-value (shapeNamed (a .before-shape)) (shapeNamed (a .cur-shape)) (shapeNamed (a .after-shape))
+          (allNamed (a .quality) (a .before-shape) (a .cur-shape) (a .after-shape) && leb (a .first) 1) (length (now (a .before)))
+          (length (now (a .cur))) (length (now (a .after))) (length (now (a .out)))
+          (λ (b c e : Shape). over (linesOf (qualityNamed (a .quality)) (fieldRows (parityNamed (a .first))) (valueOf (now (a .before)) b) (valueOf (now (a .cur)) c) (valueOf (now (a .after)) e) (c .width) (c .height)) (now (a .out)))
+          (now (a .out)),
     )
 
 pub desk-plane-spec : {M : Type 1} → statement M

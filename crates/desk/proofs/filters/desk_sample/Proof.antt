@@ -1,18 +1,23 @@
 -- `desk::filters::desk_sample` meets its contract: codes are tested here, and the rest is `filter::sample`'s own answer. Assumes nothing.
 use borrow.Author.Needs.{needs}
 use borrow.Author.Tests.{not-true, not-false}
-use mathlib.Core.Path.{_≡_, refl}
+use mathlib.Core.Path.{_≡_, refl, _∙_}
 use mathlib.Core.Bool.{true}
 use lib.ListN.{length}
 use denote.Ref.{now}
+use mir.Syntax.{w32}
+use mir.Val.{toZ, ofZ}
 use mir.Facts.{toZ-ofZ}
 use Rattle.laws.specs.Refusal.{lowest}
 use Rattle.laws.proofs.Refusal.{handed-value, handed-refusal, number-behind}
+use Rattle.plane.specs.declared.Shape.{Shape}
 use Rattle.plane.specs.Plane.{valueOf}
 use Rattle.plane.specs.Answer.{sampledNo, sampledValues}
 use Rattle.filter.specs.Filter.{sampleOf}
 use Rattle.filter.specs.Answer.{sampleTests}
-use Rattle.desk.specs.Filters.{rowsNamed, allNamed}
+use Rattle.desk.specs.Planes.{shapeNamed}
+use Rattle.desk.specs.Filters.{qualityNamed, rowsNamed, allNamed, sampleNo}
+use Rattle.desk.proofs.Cut.{sample-number, sample-value}
 use Rattle.desk.proofs.filters.desk_sample.Statement.{statement}
 use Rattle.desk.proofs.filters.desk_sample.Tie as tie
 
@@ -52,6 +57,28 @@ enum-known-found c = search needs
 enum-known-no : tie.Need-enum-known-no
 enum-known-no c = search needs
 
+-- the number of the cut shapes is that of the shapes as given
+number :
+    (k : tie.After-sample) →
+    let a = k .before .before .before .before .before .before .before .before .before .before .before .before .args in
+    lowest
+    (sampleTests (rowsNamed (a .first) (a .mate)) (k .before .before .before .shape-named .result) (length (now (a .before)))
+    (k .before .before .shape-named2 .result) (length (now (a .cur))) (k .before .shape-named3 .result) (length (now (a .after)))
+    (toZ w32 (ofZ w32 (a .x))) (toZ w32 (ofZ w32 (a .y))))
+    ≡ sampleNo (a .quality) (rowsNamed (a .first) (a .mate)) (a .before-shape) (length (now (a .before))) (a .cur-shape) (length (now (a .cur)))
+    (a .after-shape) (length (now (a .after))) (a .x) (a .y)
+number k =
+    let s = k .before .before .before .before .before .before .before .before .before .before .before .before in
+    let a = s .args in
+    let b = k .before .before .before .shape-named .ensures in
+    let c = k .before .before .shape-named2 .ensures in
+    let e = k .before .shape-named3 .ensures in
+    number-behind 3 (named k)
+    (λ i. sampleTests (rowsNamed (a .first) (a .mate)) (b i) (length (now (a .before))) (c i) (length (now (a .cur))) (e i) (length (now (a .after))) (toZ-ofZ (s .fits .x) i) (toZ-ofZ (s .fits .y) i))
+    ∙ sample-number (shapeNamed (a .before-shape)) (shapeNamed (a .cur-shape)) (shapeNamed (a .after-shape))
+    (allNamed (a .quality) (a .before-shape) (a .cur-shape) (a .after-shape)) (rowsNamed (a .first) (a .mate)) (length (now (a .before)))
+    (length (now (a .cur))) (length (now (a .after))) (a .x) (a .y)
+
 returns-2 : tie.Need-returns-2
 returns-2 d =
     let k = d .before .before .before in
@@ -60,11 +87,18 @@ returns-2 d =
     let b = k .before .before .before .shape-named .ensures in
     let c = k .before .before .shape-named2 .ensures in
     let e = k .before .shape-named3 .ensures in
-    handed-value sampledNo sampledValues (d .before .found .given .1)
-    (number-behind 3 (named k)
-    (λ i. sampleTests (rowsNamed (a .first) (a .mate)) (b i) (length (now (a .before))) (c i) (length (now (a .cur))) (e i) (length (now (a .after))) (toZ-ofZ (s .fits .x) i) (toZ-ofZ (s .fits .y) i)))
+    let done =
+    handed-value sampledNo sampledValues (d .before .found .given .1) (number k)
     (λ i. sampleOf (k .before .before .before .before .quality-named .ensures i) (rowsNamed (a .first) (a .mate)) (valueOf (now (a .before)) (b i)) (valueOf (now (a .cur)) (c i)) (valueOf (now (a .after)) (e i)) (toZ-ofZ (s .fits .x) i) (toZ-ofZ (s .fits .y) i))
     _ refl refl (k .sample .ensures .0) (k .sample .ensures .1)
+    in (
+      done .0,
+      done .1
+          ∙ sample-value (shapeNamed (a .before-shape)) (shapeNamed (a .cur-shape)) (shapeNamed (a .after-shape))
+          (allNamed (a .quality) (a .before-shape) (a .cur-shape) (a .after-shape)) (rowsNamed (a .first) (a .mate)) (length (now (a .before)))
+          (length (now (a .cur))) (length (now (a .after))) (a .x) (a .y)
+          (λ (b c e : Shape). sampleOf (qualityNamed (a .quality)) (rowsNamed (a .first) (a .mate)) (valueOf (now (a .before)) b) (valueOf (now (a .cur)) c) (valueOf (now (a .after)) e) (a .x) (a .y)) _,
+    )
 
 returns-3 : tie.Need-returns-3
 returns-3 d =
@@ -74,9 +108,7 @@ returns-3 d =
     let b = k .before .before .before .shape-named .ensures in
     let c = k .before .before .shape-named2 .ensures in
     let e = k .before .shape-named3 .ensures in
-    handed-refusal sampledNo sampledValues (d .before .no .given .1)
-    (number-behind 3 (named k)
-    (λ i. sampleTests (rowsNamed (a .first) (a .mate)) (b i) (length (now (a .before))) (c i) (length (now (a .cur))) (e i) (length (now (a .after))) (toZ-ofZ (s .fits .x) i) (toZ-ofZ (s .fits .y) i)))
+    handed-refusal sampledNo sampledValues (d .before .no .given .1) (number k)
     (λ i. sampleOf (k .before .before .before .before .quality-named .ensures i) (rowsNamed (a .first) (a .mate)) (valueOf (now (a .before)) (b i)) (valueOf (now (a .cur)) (c i)) (valueOf (now (a .after)) (e i)) (toZ-ofZ (s .fits .x) i) (toZ-ofZ (s .fits .y) i))
     _ _ refl refl (k .sample .ensures .0) (k .sample .ensures .1)
 

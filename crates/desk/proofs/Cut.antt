@@ -1,0 +1,192 @@
+-- The code holds shapes whose numbers are cut to their places (`cut` of specs/Inner.antt). Nothing changes by it: a cut shape is within the bounds
+-- exactly when the shape as given is, and then the two are one. Before 4, which is so judged alike, no call reads a size. Assumes nothing.
+use Prim.Native.Nat.{ℕ, _≤_, _<_, min}
+use mathlib.Core.Path.{_≡_, refl, sym, ap, subst}
+use mathlib.Core.Bool.{Bool, true, false, _&&_}
+use mathlib.Core.List.{List, [], _∷_}
+use native.Mathlib.Omega.{arith}
+use borrow.Author.Tests.{leb-true, le-leb}
+use lib.Dec.{leb, lit<}
+use lib.IntN.{ℤ}
+use Rattle.laws.specs.Refusal.{lowest, written}
+use Rattle.laws.proofs.Refusal.{first-passes, rest-passes, lowest-behind, lowest-alike, written-alike}
+use Rattle.plane.specs.declared.Shape.{Shape}
+use Rattle.plane.specs.declared.Layout.the-variants.{Planar}
+use Rattle.plane.specs.Plane.{goodShape}
+use Rattle.plane.specs.Answer.{readTests}
+use Rattle.plane.proofs.Bounds.{good-within}
+use Rattle.plane.proofs.Coordinates.{both-inside}
+use Rattle.filter.specs.declared.Rows.{Rows}
+use Rattle.filter.specs.Answer.{sampleTests}
+use Rattle.fill.specs.Fill.{planeTests}
+use Rattle.comb.specs.Answer.{combTests, combNo, rgbaNo}
+use Rattle.desk.specs.Inner.{cut}
+
+-- ---- one shape
+-- a number whose cut value is within the bounds is not cut
+fits : (s : Shape) → min (s .width) 65535 ≤ 8192 → min (s .height) 65535 ≤ 4352 → min (s .depth) 255 ≤ 16 → cut s ≡ s
+fits s w h d =
+    let width : min (s .width) 65535 ≡ s .width = omega arith in
+    let height : min (s .height) 65535 ≡ s .height = omega arith in
+    let depth : min (s .depth) 255 ≡ s .depth = omega arith in
+    λ i. record { width = width i; height = height i; depth = depth i; stride = s .stride; layout = s .layout }
+
+cut-fits : (s : Shape) → goodShape (cut s) ≡ true → cut s ≡ s
+cut-fits s g = let b = good-within (cut s) g in fits s (b .width-most) (b .height-most) (b .depth-most)
+
+pub cut-same : (s : Shape) → goodShape s ≡ true → cut s ≡ s
+cut-same s g =
+    let b = good-within s g in
+    let w : s .width ≤ 8192 = b .width-most in
+    let h : s .height ≤ 4352 = b .height-most in
+    let d : s .depth ≤ 16 = b .depth-most in
+    fits s (omega arith) (omega arith) (omega arith)
+
+-- verdicts of which each follows from the other are one
+one-verdict : (a b : Bool) → (a ≡ true → b ≡ true) → (b ≡ true → a ≡ true) → a ≡ b
+one-verdict true b there back = sym (there refl)
+one-verdict false true there back = back refl
+one-verdict false false there back = refl
+
+pub cut-good : (s : Shape) → goodShape (cut s) ≡ goodShape s
+cut-good s =
+    one-verdict (goodShape (cut s)) (goodShape s) (λ g. subst (λ (t : Shape). goodShape t ≡ true) (cut-fits s g) g)
+    (λ g. subst (λ (t : Shape). goodShape t ≡ true) (sym (cut-same s g)) g)
+
+-- the tests behind the first
+abbrev behind : List (ℕ × Bool) → List (ℕ × Bool)
+behind [] = []
+behind (test ∷ tests) = tests
+
+-- ---- the reads of one plane: 3 twice, of the layout's code and of the coordinates, then 4
+module _ (layout coordinates : Bool) (s : Shape) (bytes : ℕ) where
+  abbrev readNo : Shape → ℕ
+  readNo t = lowest ((3, layout) ∷ readTests coordinates t bytes)
+
+  pub read-number : readNo (cut s) ≡ readNo s
+  read-number =
+      lowest-behind 3 layout _ _
+      (lowest-behind 3 coordinates _ _ (lowest-alike 4 _ _ (cut-good s) (λ g. ap (λ (t : Shape). lowest (behind (readTests coordinates t bytes))) (cut-same s g))))
+
+  pub read-good : readNo s ≡ 0 → goodShape s ≡ true
+  read-good z = first-passes 4 _ _ (lit< tt) (rest-passes 3 _ _ (lit< tt) (rest-passes 3 _ _ (lit< tt) z))
+
+  pub read-value : {A : Type 0} (value : Shape → A) (old : A) → written (readNo s) (value (cut s)) old ≡ written (readNo s) (value s) old
+  read-value value old = written-alike (readNo s) old (λ z. ap value (cut-same s (read-good z)))
+
+-- ---- three planes, of which 4 is judged together
+module _ (before cur after : Shape) where
+  abbrev threeGood : Bool
+  threeGood = goodShape before && goodShape cur && goodShape after
+
+  three-good : (goodShape (cut before) && goodShape (cut cur) && goodShape (cut after)) ≡ threeGood
+  three-good i = cut-good before i && cut-good cur i && cut-good after i
+
+  three-same : threeGood ≡ true → (cut before ≡ before) × (cut cur ≡ cur) × (cut after ≡ after)
+  three-same g =
+      let first = both-inside (goodShape before && goodShape cur) (goodShape after) g in
+      let second = both-inside (goodShape before) (goodShape cur) (first .0) in
+      (cut-same before (second .0), cut-same cur (second .1), cut-same after (first .1))
+
+  module _ (named : Bool) (rows : Rows) (before-bytes cur-bytes after-bytes : ℕ) (x y : ℤ) where
+    abbrev sampleNo : Shape → Shape → Shape → ℕ
+    sampleNo b c a = lowest ((3, named) ∷ sampleTests rows b before-bytes c cur-bytes a after-bytes x y)
+
+    pub sample-number : sampleNo (cut before) (cut cur) (cut after) ≡ sampleNo before cur after
+    sample-number =
+        lowest-behind 3 named _ _
+        (lowest-behind 3 _ _ _
+        (lowest-alike 4 _ _ three-good
+        (λ g. λ i.
+        lowest (behind (sampleTests rows (three-same g .0 i) before-bytes (three-same g .1 i) cur-bytes (three-same g .2 i) after-bytes x y)))))
+
+    sample-same : sampleNo before cur after ≡ 0 → (cut before ≡ before) × (cut cur ≡ cur) × (cut after ≡ after)
+    sample-same z = three-same (first-passes 4 _ _ (lit< tt) (rest-passes 3 _ _ (lit< tt) (rest-passes 3 _ _ (lit< tt) z)))
+
+    pub sample-value :
+        {A : Type 0} (value : Shape → Shape → Shape → A) (old : A) →
+        written (sampleNo before cur after) (value (cut before) (cut cur) (cut after)) old ≡ written (sampleNo before cur after) (value before cur after) old
+    sample-value value old =
+        written-alike (sampleNo before cur after) old
+        (λ z.
+        let same = sample-same z in
+        λ i. value (same .0 i) (same .1 i) (same .2 i))
+
+  module _ (named : Bool) (before-bytes cur-bytes after-bytes room : ℕ) where
+    abbrev planeNo : Shape → Shape → Shape → ℕ
+    planeNo b c a = lowest ((3, named) ∷ planeTests b before-bytes c cur-bytes a after-bytes room)
+
+    pub plane-number : planeNo (cut before) (cut cur) (cut after) ≡ planeNo before cur after
+    plane-number =
+        lowest-behind 3 named _ _
+        (lowest-alike 4 _ _ three-good
+        (λ g. λ i. lowest (planeTests (three-same g .0 i) before-bytes (three-same g .1 i) cur-bytes (three-same g .2 i) after-bytes room)))
+
+    plane-same : planeNo before cur after ≡ 0 → (cut before ≡ before) × (cut cur ≡ cur) × (cut after ≡ after)
+    plane-same z = three-same (first-passes 4 _ _ (lit< tt) (rest-passes 3 _ _ (lit< tt) z))
+
+    pub plane-value :
+        {A : Type 0} (value : Shape → Shape → Shape → A) (old : A) →
+        written (planeNo before cur after) (value (cut before) (cut cur) (cut after)) old ≡ written (planeNo before cur after) (value before cur after) old
+    plane-value value old =
+        written-alike (planeNo before cur after) old
+        (λ z.
+        let same = plane-same z in
+        λ i. value (same .0 i) (same .1 i) (same .2 i))
+
+-- ---- comb, which takes four numbers of a planar shape
+module _ (width height depth stride bytes : ℕ) where
+  abbrev planar : Shape
+  planar = record { width = width; height = height; depth = depth; stride = stride; layout = Planar }
+
+  pub comb-number : combNo (min width 65535) (min height 65535) (min depth 255) stride bytes ≡ combNo width height depth stride bytes
+  comb-number =
+      lowest-alike 4 _ _ (cut-good planar)
+      (λ g. ap (λ (s : Shape). lowest (combTests (s .width) (s .height) (s .depth) (s .stride) bytes)) (cut-same planar g))
+
+  pub comb-value :
+      {A : Type 0} (value : ℕ → ℕ → ℕ → A) (old : A) →
+      written (combNo width height depth stride bytes) (value (min width 65535) (min height 65535) (min depth 255)) old
+      ≡ written (combNo width height depth stride bytes) (value width height depth) old
+  comb-value value old =
+      written-alike (combNo width height depth stride bytes) old
+      (λ z. ap (λ (s : Shape). value (s .width) (s .height) (s .depth)) (cut-same planar (first-passes 4 _ _ (lit< tt) z)))
+
+-- ---- and of an RGBA picture two
+least : (n : ℕ) → leb 1 (min n 65535) ≡ leb 1 n
+least n =
+    one-verdict (leb 1 (min n 65535)) (leb 1 n) (λ g. le-leb 1 n (omega (arith, leb-true 1 (min n 65535) g)))
+    (λ g. le-leb 1 (min n 65535) (omega (arith, leb-true 1 n g)))
+
+most : (n k : ℕ) → k < 65535 → leb (min n 65535) k ≡ leb n k
+most n k small =
+    one-verdict (leb (min n 65535) k) (leb n k) (λ g. le-leb n k (omega (arith, small, leb-true (min n 65535) k g)))
+    (λ g. le-leb (min n 65535) k (omega (arith, leb-true n k g)))
+
+uncut : (n k : ℕ) → k < 65535 → leb n k ≡ true → min n 65535 ≡ n
+uncut n k small g = omega (arith, small, leb-true n k g)
+
+module _ (width height bytes : ℕ) where
+  abbrev sizesGood : ℕ → ℕ → Bool
+  sizesGood w h = leb 1 w && leb w 8192 && leb 1 h && leb h 4352
+
+  sizes-good : sizesGood (min width 65535) (min height 65535) ≡ sizesGood width height
+  sizes-good i = least width i && most width 8192 (lit< tt) i && least height i && most height 4352 (lit< tt) i
+
+  sizes-same : sizesGood width height ≡ true → (min width 65535 ≡ width) × (min height 65535 ≡ height)
+  sizes-same g =
+      let tall = both-inside (leb 1 width && leb width 8192 && leb 1 height) (leb height 4352) g in
+      let wide = both-inside (leb 1 width && leb width 8192) (leb 1 height) (tall .0) in
+      (uncut width 8192 (lit< tt) (both-inside (leb 1 width) (leb width 8192) (wide .0) .1), uncut height 4352 (lit< tt) (tall .1))
+
+  pub rgba-number : rgbaNo (min width 65535) (min height 65535) bytes ≡ rgbaNo width height bytes
+  rgba-number = lowest-alike 4 _ _ sizes-good (λ g. λ i. rgbaNo (sizes-same g .0 i) (sizes-same g .1 i) bytes)
+
+  pub rgba-value :
+      {A : Type 0} (value : ℕ → ℕ → A) (old : A) →
+      written (rgbaNo width height bytes) (value (min width 65535) (min height 65535)) old ≡ written (rgbaNo width height bytes) (value width height) old
+  rgba-value value old =
+      written-alike (rgbaNo width height bytes) old
+      (λ z.
+      let same = sizes-same (first-passes 4 _ _ (lit< tt) z) in
+      λ i. value (same .0 i) (same .1 i))

@@ -1,0 +1,73 @@
+-- `desk::planes::code_no` meets its contract: the coordinates are judged by the sizes as given, and what is judged by the cut shape is the same of
+-- the shape as given. Assumes nothing.
+use Prim.Native.Nat.{ℕ}
+use mathlib.Core.Path.{_≡_, refl, ap, _∙_}
+use mathlib.Core.Bool.{Bool, true, _&&_}
+use mathlib.Core.List.{[], _∷_}
+use lib.Dec.{leb}
+use lib.IntN.{ℤ}
+use mir.Facts.{toZ-ofZ}
+use borrow.Author.Needs.{needs}
+use Rattle.laws.specs.Refusal.{lowest}
+use Rattle.laws.proofs.Refusal.{lowest-halves}
+use Rattle.plane.specs.Plane.{goodShape, planeBytes}
+use Rattle.plane.specs.Coordinates.{inside}
+use Rattle.plane.specs.Answer.{readTests}
+use Rattle.desk.specs.declared.planes.PlaneNumbers.{PlaneNumbers}
+use Rattle.desk.specs.Planes.{shapeNamed, codeNo}
+use Rattle.desk.specs.Inner.{cut}
+use Rattle.desk.proofs.Cut.{read-number}
+use Rattle.desk.proofs.planes.code_no.Statement.{statement}
+use Rattle.desk.proofs.planes.code_no.Tie as tie
+
+is-inside-requires : tie.Need-is-inside-requires
+is-inside-requires c κs = search needs
+
+is-inside-requires-2 : tie.Need-is-inside-requires-2
+is-inside-requires-2 c κs = search needs
+
+shape-named-requires : tie.Need-shape-named-requires
+shape-named-requires c κs = search needs
+
+good-shape-requires : tie.Need-good-shape-requires
+good-shape-requires c κs = search needs
+
+plane-bytes-requires : tie.Need-plane-bytes-requires
+plane-bytes-requires c κs = search needs
+
+lowest-of-requires : tie.Need-lowest-of-requires
+lowest-of-requires c κs = search needs
+
+-- the six tests that are made, of which two never fail, are those of a read
+judged :
+    (named coordinates good : Bool) (needed bytes : ℕ) →
+    lowest ((3, named && coordinates) ∷ (4, good) ∷ (5, true) ∷ (6, leb needed bytes) ∷ (7, true) ∷ (8, true) ∷ [])
+    ≡ lowest ((3, named) ∷ (3, coordinates) ∷ (4, good) ∷ (6, leb needed bytes) ∷ [])
+unfolding lowest
+judged named coordinates good needed bytes = lowest-halves 3 named coordinates ((4, good) ∷ (6, leb needed bytes) ∷ [])
+
+returns : tie.Need-returns
+returns c =
+    let s = c .before .before .before .before .before .before .before in
+    let a = s .args in
+    let x = c .before .before .before .before .before .before .is-inside .ensures ∙ ap (inside (a .shape .width)) (toZ-ofZ (s .fits .x)) in
+    let y = c .before .before .before .before .before .is-inside2 .ensures ∙ ap (inside (a .shape .height)) (toZ-ofZ (s .fits .y)) in
+    let held = c .before .before .before .before .shape-named .ensures in
+    let good = c .before .before .good-shape .ensures ∙ ap goodShape held in
+    let needed = c .before .plane-bytes .ensures ∙ ap planeBytes held in
+    c .lowest-of .ensures
+    ∙ judged (leb (a .shape .layout) 3) _ _ _ (a .bytes)
+    ∙ (λ i. lowest ((3, leb (a .shape .layout) 3) ∷ (3, x i && y i) ∷ (4, good i) ∷ (6, leb (needed i) (a .bytes)) ∷ []))
+    ∙ read-number (leb (a .shape .layout) 3) (inside (a .shape .width) (a .x) && inside (a .shape .height) (a .y)) (shapeNamed (a .shape)) (a .bytes)
+
+pub code-no-spec : {M : Type 1} → statement M
+code-no-spec =
+    tie.close
+    (tie.spec
+    is-inside-requires
+    is-inside-requires-2
+    shape-named-requires
+    good-shape-requires
+    plane-bytes-requires
+    lowest-of-requires
+    returns)

@@ -1,0 +1,11 @@
+-- What a private step of the export holds: frames whose numbers have to fit their places. No export's contract cites this file; proofs/Cut.antt
+-- shows that the cut changes nothing. Assumes nothing.
+use Rattle.plane.specs.declared.Planes.{Planes}
+use Rattle.picture.specs.Picture.{Frame, frameOf}
+use Rattle.desk.specs.Inner.{cut}
+
+abbrev pub cutPlanes : Planes → Planes
+cutPlanes p = record { luma = cut (p .luma); cb = cut (p .cb); cr = cut (p .cr) }
+
+abbrev pub cutFrame : Frame → Frame
+cutFrame f = frameOf (cutPlanes (f .shapes)) (f .luma) (f .cb) (f .cr)
