@@ -67,9 +67,9 @@ pub fn weave(top: [Lent; 3], bottom: [Lent; 3], outs: [usize; 3]) -> u8 {
 }
 
 /// The number of a single line, which is outside from twice the top's height
-/// on. As of `code`, a height above 65,535 counts as 65,535 there.
+/// on.
 pub fn line(top: PlaneNumbers, bottom: PlaneNumbers, lengths: [u64; 2], y: u32) -> u8 {
-    let lines = u64::from(top.height.min(65_535)) * 2;
+    let lines = u64::from(top.height) * 2;
     let [top_bytes, bottom_bytes] = lengths;
     lowest(&[
         (3, u64::from(y) >= lines),
@@ -253,6 +253,12 @@ mod tests {
         assert_eq!(woven_line((luma, 20), (other, 18), 5, 6), 0);
         assert_eq!(woven_line((luma, 20), (other, 18), 5, 5), 7);
         assert_eq!(woven_line((luma, 20), (other, 17), 5, 5), 6);
+        // However high the field is said to be.
+        let high = lines(1, 70_000, 8, 1);
+        assert_eq!(line(high, high, [70_000; 2], 139_999), 4);
+        assert_eq!(line(high, high, [70_000; 2], 140_000), 3);
+        let highest = lines(1, u32::MAX, 8, 1);
+        assert_eq!(line(highest, highest, [0; 2], u32::MAX), 4);
     }
 
     #[test]
