@@ -29,6 +29,10 @@ insideOf answer numbers j = leb (startOf answer numbers j) (length answer) && le
 unfoldable pub bytesOf : List ℕ → ℕ → ℕ → List ℕ
 bytesOf answer numbers j = cond (insideOf answer numbers j) (take (sizeOf answer numbers j) (drop (startOf answer numbers j) answer)) []
 
+-- where it stands, a block and an offset: so far into the record, or, where it is none, at the record's front
+unfoldable pub placeOf : ℕ × ℕ → List ℕ → ℕ → ℕ → ℕ × ℕ
+placeOf record-place answer numbers j = cond (insideOf answer numbers j) (record-place .0, startOf answer numbers j + record-place .1) record-place
+
 -- whether a test passes for every number below n
 unfoldable pub every : ℕ → (ℕ → Bool) → Bool
 every zero passes = true

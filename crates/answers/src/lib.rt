@@ -10,7 +10,7 @@ ghost use Prim.Native.Nat.{_%_, _^_, min};
 ghost use lib.Dec.{eqb};
 ghost use lib.Ieee.{binary32, ofBits};
 ghost use lib.ListN.{length};
-ghost use Rattle.answers.specs.Record.{numberOf, signedOf, bytesOf, insideOf, wholeOf};
+ghost use Rattle.answers.specs.Record.{numberOf, signedOf, bytesOf, placeOf, insideOf, wholeOf};
 ghost use Rattle.answers.specs.Floats.{sameFloat, sameFloats};
 
 // ---- numbers
@@ -141,6 +141,7 @@ fn inside(answer: &[u8], numbers: u8, j: u8) -> bool
 // Slice j of a record of so many numbers; nothing, where it does not lie within it.
 pub fn bytes<'a>(answer: &'a [u8], numbers: u8, j: u8) -> &'a [u8]
     ensures { λ r. ⌜ now r ≡ bytesOf (now (answer .entry)) numbers j ⌝ }
+    ensures { λ r. ⌜ r .ptr ≡ placeOf (answer .entry .ptr) (now (answer .entry)) numbers j ⌝ }
 {
     let place = 4 + (numbers as u16) + 2 * (j as u16);
     let from = packed::number_at(answer, place);

@@ -1,6 +1,5 @@
 -- Nothing else would satisfy a contract of `answers`. Assumes nothing.
 use mathlib.Core.Path.{refl}
-use denote.Ref.{now}
 use Rattle.answers.proofs.number.Kinds as number-kinds
 use Rattle.answers.proofs.number.Reads as number
 use Rattle.answers.proofs.word.Kinds as word-kinds
@@ -35,7 +34,7 @@ use Rattle.answers.proofs.lent.value.Kinds as value-kinds
 use Rattle.answers.proofs.lent.value.Reads as value
 use Rattle.answers.proofs.lent.part.Kinds as part-kinds
 use Rattle.answers.proofs.lent.part.Reads as part
-use Rattle.unique.specs.Unique.{OneAnswer, OneContent}
+use Rattle.unique.specs.Unique.{OneAnswer, OneContent, placed}
 use Rattle.unique.proofs.Law as law
 
 pub number-once : OneAnswer 1 number-kinds.ps number-kinds.r number.Post
@@ -74,8 +73,8 @@ same-float-once κs a x y u v p q = (law.same p q, refl)
 pub same-floats-once : OneAnswer 2 same-floats-kinds.ps same-floats-kinds.r same-floats.Post
 same-floats-once κs a x y u v p q = (law.same p q, refl)
 
-pub bytes-once : OneContent 1 bytes-kinds.ps bytes-kinds.r (λ κs x. now x) bytes.Post
-bytes-once κs a x y u v p q = (law.same p q, refl)
+pub bytes-once : OneContent 1 bytes-kinds.ps bytes-kinds.r (λ κs x. placed x) bytes.Post
+bytes-once κs a x y u v p q = ((λ i. (law.same (p .1) (q .1) i, law.same (p .0) (q .0) i)), refl)
 
 pub whole-once : OneAnswer 1 whole-kinds.ps whole-kinds.r whole.Post
 whole-once κs a x y u v p q = (law.same p q, refl)

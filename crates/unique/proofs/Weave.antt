@@ -1,6 +1,5 @@
 -- Nothing else would satisfy a contract of `weave`. Assumes nothing.
 use mathlib.Core.Path.{refl}
-use denote.Ref.{now}
 use Rattle.weave.proofs.good_field.Kinds as good-field-kinds
 use Rattle.weave.proofs.good_field.Reads as good-field
 use Rattle.weave.proofs.chroma_fits.Kinds as chroma-fits-kinds
@@ -17,7 +16,7 @@ use Rattle.weave.proofs.woven_line.Kinds as woven-line-kinds
 use Rattle.weave.proofs.woven_line.Reads as woven-line
 use Rattle.weave.proofs.woven.Kinds as woven-kinds
 use Rattle.weave.proofs.woven.Reads as woven
-use Rattle.unique.specs.Unique.{OneAnswer, OneContent}
+use Rattle.unique.specs.Unique.{OneAnswer, OneContent, placed}
 use Rattle.unique.proofs.Law.{same, _and_, once}
 
 pub good-field-once : OneAnswer 0 good-field-kinds.ps good-field-kinds.r good-field.Post
@@ -40,8 +39,8 @@ weave-once =
 pub line-no-once : OneAnswer 0 line-no-kinds.ps line-no-kinds.r line-no.Post
 line-no-once κs a x y u v p q = (same p q, refl)
 
-pub woven-line-once : OneContent 1 woven-line-kinds.ps woven-line-kinds.r (λ κs x. now x) woven-line.Post
-woven-line-once κs a x y u v p q = (same p q, refl)
+pub woven-line-once : OneContent 1 woven-line-kinds.ps woven-line-kinds.r (λ κs x. placed x) woven-line.Post
+woven-line-once κs a x y u v p q = ((λ i. (same (p .1) (q .1) i, same (p .0) (q .0) i)), refl)
 
 pub woven-once : OneAnswer 0 woven-kinds.ps woven-kinds.r woven.Post
 woven-once κs a x y u v p q = (same p q, refl)

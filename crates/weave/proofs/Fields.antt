@@ -17,7 +17,7 @@ use Rattle.plane.specs.Plane.{goodShape, planeBytes, sampleBytes, agree}
 use Rattle.plane.proofs.Bounds.{good-within}
 use Rattle.plane.proofs.Coordinates.{both-inside}
 use Rattle.weave.specs.declared.Lines.{Lines}
-use Rattle.weave.specs.Weave.{shapeOf, lineBytes, goodLines, lineIn, wovenLine, wovenPlane, wovenBytes}
+use Rattle.weave.specs.Weave.{shapeOf, lineBytes, goodLines, lineIn, wovenLine, placeIn, linePlace, wovenPlane, wovenBytes}
 use Rattle.weave.specs.Claims.{Matched}
 use Rattle.weave.proofs.General.{stacks-part, clamped, clamped-wide, clamped-row, clamped-laid}
 
@@ -80,6 +80,14 @@ module _ (top : List ℕ) (t : Lines) (bottom : List ℕ) (b : Lines) where
   odd-line r =
       let half : (r * 2 + 1) / 2 ≡ r = omega arith in
       bottom-line (r * 2 + 1) (λ h. omega arith) ∙ ap (λ (k : ℕ). lineIn bottom b k) half
+
+-- where a woven line stands
+module _ (top : ℕ × ℕ) (t : Lines) (bottom : ℕ × ℕ) (b : Lines) (y : ℕ) where
+  pub top-place : y % 2 ≡ 0 → linePlace top t bottom b y ≡ placeIn top t (y / 2)
+  top-place h = rw (eq-eqb (y % 2) 0 h)
+
+  pub bottom-place : (y % 2 ≡ 0 → ⊥) → linePlace top t bottom b y ≡ placeIn bottom b (y / 2)
+  bottom-place h = rw (ne-eqb (y % 2) 0 h)
 
 -- the lines of a woven plane, of which the last stands for each that lies past it
 abbrev pub wovenRows : List ℕ → Lines → List ℕ → Lines → ℕ → List ℕ

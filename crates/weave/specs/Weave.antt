@@ -1,6 +1,6 @@
 -- Two fields woven into a frame (document 01, "Fields and readback", "Planes"; the source is weave.rs): the numbers, the lines, the planes.
 -- Assumes nothing.
-use Prim.Native.Nat.{ℕ, _*_, _/_, _%_, min}
+use Prim.Native.Nat.{ℕ, _+_, _*_, _/_, _%_, min}
 use mathlib.Core.Bool.{Bool, true, false, cond, _&&_}
 use mathlib.Core.List.{List, [], _∷_}
 use lib.Dec.{leb, ltb, eqb}
@@ -46,6 +46,13 @@ lineIn bytes l r = take (lineBytes l) (drop (r * l .stride) bytes)
 -- A woven plane alternates top and bottom lines,
 unfoldable pub wovenLine : List ℕ → Lines → List ℕ → Lines → ℕ → List ℕ
 wovenLine top t bottom b y = cond (eqb (y % 2) 0) (lineIn top t (y / 2)) (lineIn bottom b (y / 2))
+
+-- where it stands: a place is a block and an offset, and a line of a field stands so many bytes behind the field's own place
+abbrev pub placeIn : ℕ × ℕ → Lines → ℕ → ℕ × ℕ
+placeIn field l r = (field .0, r * l .stride + field .1)
+
+abbrev pub linePlace : ℕ × ℕ → Lines → ℕ × ℕ → Lines → ℕ → ℕ × ℕ
+linePlace top t bottom b y = cond (eqb (y % 2) 0) (placeIn top t (y / 2)) (placeIn bottom b (y / 2))
 
 -- tightly packed.
 unfoldable pub wovenPlane : List ℕ → Lines → List ℕ → Lines → List ℕ

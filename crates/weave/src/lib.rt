@@ -13,7 +13,7 @@ ghost use lib.ListN.{length, take, drop};
 ghost use Rattle.laws.specs.Refusal.{written};
 ghost use Rattle.laws.specs.Rows.{over};
 ghost use Rattle.plane.specs.Plane.{planeBytes, agree, chromaAgrees};
-ghost use Rattle.weave.specs.Weave.{shapeOf, lineBytes, goodLines, givenOf, wovenLine, wovenPlane, wovenBytes, goodField, chromaFits, wholeField, roomFor, weaveNo, lineNo, doubled, wovenFormat};
+ghost use Rattle.weave.specs.Weave.{shapeOf, lineBytes, goodLines, givenOf, wovenLine, linePlace, wovenPlane, wovenBytes, goodField, chromaFits, wholeField, roomFor, weaveNo, lineNo, doubled, wovenFormat};
 ghost use Rattle.weave.specs.Claims.{Matched};
 
 // The lines of one plane of a field. Stride is in bytes.
@@ -35,7 +35,7 @@ pub struct Field {
 pub struct Format {
     pub width: u32,
     pub height: u32,
-    pub depth: u8,
+    pub depth: u32,
     pub rate_numerator: u32,
     pub rate_denominator: u32,
     // Each picture is one field.
@@ -204,6 +204,7 @@ pub fn woven_line<'a>(
     y: u32,
 ) -> &'a [u8]
     ensures { λ r. ⌜ now r ≡ written (lineNo «top_lines» (length (now (top .entry))) «bottom_lines» (length (now (bottom .entry))) y) (wovenLine (now (top .entry)) «top_lines» (now (bottom .entry)) «bottom_lines» y) [] ⌝ }
+    ensures { λ r. ⌜ r .ptr ≡ written (lineNo «top_lines» (length (now (top .entry))) «bottom_lines» (length (now (bottom .entry))) y) (linePlace (top .entry .ptr) «top_lines» (bottom .entry .ptr) «bottom_lines» y) (top .entry .ptr) ⌝ }
 {
     if line_no(top_lines, top.len(), bottom_lines, bottom.len(), y) == 0 {
         let row = (y / 2) as usize;

@@ -1,7 +1,11 @@
 -- Laws that several proofs cite, and the claims. Assumes nothing.
 pub mod General
+pub mod Narrowed
 pub mod Lines
 pub mod Times
 pub mod Kept
 pub mod Push
+pub mod States
+pub mod Held
+pub mod Demand
 pub mod Claims

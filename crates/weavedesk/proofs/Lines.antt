@@ -17,7 +17,9 @@ use Rattle.weave.proofs.Fields.{rows-wide}
 use Rattle.weave.proofs.Judged.{line-judged}
 use Rattle.weavedesk.specs.declared.LinesNumbers.{LinesNumbers}
 use Rattle.weavedesk.specs.Woven.{linesNamed, lineOutNo}
+use Rattle.weavedesk.specs.Inner.{linesCut}
 use Rattle.weavedesk.proofs.General.{refused-already, decided-behind}
+use Rattle.weavedesk.proofs.Narrowed.{line-same}
 
 -- a woven line that is not refused is as long as a line of the top field
 line-length :
@@ -34,25 +36,29 @@ module _ (top : List ℕ) (t : LinesNumbers) (bottom : List ℕ) (b : LinesNumbe
       (r ≡ lineOutNo t (length top) b (length bottom) y (length out))
       × (after ≡ written r (over (wovenLine top (linesNamed t) bottom (linesNamed b) y) out) out)
 
-  module _ {upper lower : Lines} (u : upper ≡ linesNamed t) (l : lower ≡ linesNamed b) {no : ℕ}
-      (e : no ≡ lineNo upper (length top) lower (length bottom) y) where
-    named : no ≡ lineNo (linesNamed t) (length top) (linesNamed b) (length bottom) y
-    named = e ∙ (λ i. lineNo (u i) (length top) (l i) (length bottom) y)
-
+  module _ {no : ℕ} (e : no ≡ lineNo (linesNamed t) (length top) (linesNamed b) (length bottom) y) where
     pub line-refused : (no ≡ 0 → ⊥) → Ends no out
     line-refused z = (
-      named ∙ refused-already (lineTests (linesNamed t) (length top) (linesNamed b) (length bottom) y) _ (λ h. z (named ∙ h)),
+      e ∙ refused-already (lineTests (linesNamed t) (length top) (linesNamed b) (length bottom) y) _ (λ h. z (e ∙ h)),
       stays (over (wovenLine top (linesNamed t) bottom (linesNamed b) y) out) out z,
     )
 
-    module _ (z : no ≡ 0) {line : List ℕ}
+    module _ (z : no ≡ 0) {upper lower : Lines} (u : upper ≡ linesCut t) (l : lower ≡ linesCut b) {line : List ℕ}
         (w : line ≡ written (lineNo upper (length top) lower (length bottom) y) (wovenLine top upper bottom lower y) []) where
       done : lineNo (linesNamed t) (length top) (linesNamed b) (length bottom) y ≡ 0
-      done = sym named ∙ z
+      done = sym e ∙ z
+
+      -- a call that gets 0 has shapes that were not cut
+      top-lines : upper ≡ linesNamed t
+      top-lines = u ∙ line-same t (length top) b (length bottom) y done .0
+
+      bottom-lines : lower ≡ linesNamed b
+      bottom-lines = l ∙ line-same t (length top) b (length bottom) y done .1
 
       the-line : line ≡ wovenLine top (linesNamed t) bottom (linesNamed b) y
       the-line =
-          w ∙ (λ i. written (lineNo (u i) (length top) (l i) (length bottom) y) (wovenLine top (u i) bottom (l i) y) [])
+          w
+          ∙ (λ i. written (lineNo (top-lines i) (length top) (bottom-lines i) (length bottom) y) (wovenLine top (top-lines i) bottom (bottom-lines i) y) [])
           ∙ simp (eq-eqb _ 0 done)
 
       long : length line ≡ lineBytes (linesNamed t)

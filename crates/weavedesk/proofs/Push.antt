@@ -8,9 +8,8 @@ use lib.Dec.{T, leb, ltb, ltb→lt}
 use lib.ListN.{length}
 use lib.IntN.{ℤ}
 use borrow.Author.Tests.{leb-true}
-use Rattle.laws.specs.Refusal.{lowest, written, whenDone}
+use Rattle.laws.specs.Refusal.{lowest, whenDone}
 use Rattle.laws.proofs.Refusal.{done-equal, stays}
-use Rattle.field.specs.Field.{parityNamed}
 use Rattle.field.specs.declared.Parity.{Parity}
 use Rattle.weave.specs.declared.Field.{Field}
 use Rattle.weave.specs.Weave.{givenOf, goodField, chromaFits, whole, roomFor}
@@ -18,11 +17,14 @@ use Rattle.weaver.specs.declared.Time.{Time}
 use Rattle.weaver.specs.declared.Weaver.{Weaver}
 use Rattle.weaver.specs.declared.Paired.{Paired}
 use Rattle.weaver.specs.declared.Paired.the-variants as paired
-use Rattle.weaver.specs.Weaver.{fits, fieldBytes, keptField, keptBytes, pictureTimes, pushNo, pushWeaver, pushStore, pushOut, pairedNo, pairedValues}
+use Rattle.weaver.specs.Weaver.{fits, fieldBytes, keptField, keptBytes, pictureTimes, pushWeaver, pushStore, pushOut, pairedNo, pairedValues}
+use Rattle.weaver.specs.Weaver as weaver
 use Rattle.weavedesk.specs.declared.FieldNumbers.{FieldNumbers}
-use Rattle.weavedesk.specs.Woven.{fieldNamed, linesNamed}
-use Rattle.weavedesk.specs.Waiting.{keeping, weaverIn, timeNamed, pushNamedNo, pictureNumber, timedNumber, timeNumber}
-use Rattle.weavedesk.specs.Inner.{timesIn}
+use Rattle.weavedesk.specs.Woven.{fieldNamed}
+use Rattle.weavedesk.specs.Waiting.{keeping}
+use Rattle.weavedesk.specs.Push.{Lent, Offer, given, parityIn, timeIn, weaverOf, pushNo, stateAfter, storeAfter, lumaAfter, cbAfter, crAfter, timesGiven, pictureNumber, timedNumber, timeNumber, pictureAfter, timedAfter, timeAfter}
+use Rattle.weavedesk.specs.Inner.{fieldCut, timesIn}
+use Rattle.weavedesk.proofs.Narrowed.{judged, field-narrowed}
 
 -- ---- a field is judged in two steps: the first gives 3, 4, 5, or 6 for the state, and the rest is the weaver's own number
 
@@ -72,19 +74,26 @@ times-in paired.Waits times z e = done-equal times refl e
 times-in (paired.Picture at) times z e = done-equal times refl e
 times-in (paired.Refused n) times z e = absurd (nil≢cons (e ∙ ap (λ (k : ℕ). whenDone k times) z))
 
--- ---- what a call is given, and the places lent for what it gives
-pub record Call : Type 0 where
-  pub parity : ℕ
-  pub timed : ℕ
-  pub time : ℤ
-  pub shape : FieldNumbers
-  pub luma : List ℕ
-  pub cb : List ℕ
-  pub cr : List ℕ
+-- ---- the first step judges numbers that were narrowed, which changes nothing
+pub first-same :
+    (n : FieldNumbers) (named state : Bool)
+    → firstStep named (goodField (fieldCut n)) (chromaFits (fieldCut n)) state ≡ firstStep named (goodField (fieldNamed n)) (chromaFits (fieldNamed n)) state
+unfolding lowest
+first-same n named state =
+    ap (λ (m : ℕ). cond named m 3) (judged (field-narrowed n) 4 (λ (f : Field). (5, chromaFits f) ∷ (6, state) ∷ (7, true) ∷ (8, true) ∷ []))
 
+-- and a field that passes it was not cut
+good-passes : (named good halved state : Bool) → firstStep named good halved state ≡ 0 → good ≡ true
+unfolding lowest
+good-passes false good halved state h = absurd (not-zero 3 tt h)
+good-passes true false halved state h = absurd (not-zero 4 tt h)
+good-passes true true halved state h = refl
+
+pub field-same : (n : FieldNumbers) (named state : Bool) → firstStep named (goodField (fieldNamed n)) (chromaFits (fieldNamed n)) state ≡ 0 → fieldCut n ≡ fieldNamed n
+field-same n named state h = field-narrowed n .from-given (good-passes named (goodField (fieldNamed n)) (chromaFits (fieldNamed n)) state h)
+
+-- ---- the places that a call is lent, beside the state and the store
 pub record Places : Type 0 where
-  pub state : List ℕ
-  pub store : List ℕ
   pub out-luma : List ℕ
   pub out-cb : List ℕ
   pub out-cr : List ℕ
@@ -92,140 +101,92 @@ pub record Places : Type 0 where
   pub earlier-timed : ℕ
   pub earlier-time : ℤ
 
-module _ (a : Call) (old : Places) where
+module _ (o : Offer) (l : Lent) (old : Places) where
   -- what the weaver says of a push, of a weaver, a shape, a parity and a time that are known by other names
   abbrev pub Said : Weaver → Field → Parity → Time → Paired → Weaver → List ℕ → List ℕ → List ℕ → List ℕ → Type 0
   Said w f p t answer after store luma cb cr =
-      (pairedNo answer
-      ≡ pushNo w (givenOf f (a .luma) (a .cb) (a .cr)) p (length (old .store)) (length (old .out-luma)) (length (old .out-cb)) (length (old .out-cr)))
+      (pairedNo answer ≡ weaver.pushNo w (givenOf f (o .luma) (o .cb) (o .cr)) p (length (l .store)) (o .luma-room) (o .cb-room) (o .cr-room))
       × ((pairedValues answer ≡ whenDone (pairedNo answer) (pictureTimes w f p))
       × ((after ≡ pushWeaver (pairedNo answer) w f p t)
-      × ((store ≡ pushStore (pairedNo answer) w (givenOf f (a .luma) (a .cb) (a .cr)) p (old .store))
-      × ((luma
-      ≡ pushOut (pairedNo answer) w f p (keptField w (old .store) .luma) (keptField w (old .store) .shape .luma) (a .luma) (f .luma) (old .out-luma))
-      × ((cb ≡ pushOut (pairedNo answer) w f p (keptField w (old .store) .cb) (keptField w (old .store) .shape .cb) (a .cb) (f .cb) (old .out-cb))
-      × (cr ≡ pushOut (pairedNo answer) w f p (keptField w (old .store) .cr) (keptField w (old .store) .shape .cr) (a .cr) (f .cr) (old .out-cr)))))))
-
-  abbrev theWeaver : Weaver
-  theWeaver = weaverIn (old .state)
+      × ((store ≡ pushStore (pairedNo answer) w (givenOf f (o .luma) (o .cb) (o .cr)) p (l .store))
+      × ((luma ≡ pushOut (pairedNo answer) w f p (keptField w (l .store) .luma) (keptField w (l .store) .shape .luma) (o .luma) (f .luma) (old .out-luma))
+      × ((cb ≡ pushOut (pairedNo answer) w f p (keptField w (l .store) .cb) (keptField w (l .store) .shape .cb) (o .cb) (f .cb) (old .out-cb))
+      × (cr ≡ pushOut (pairedNo answer) w f p (keptField w (l .store) .cr) (keptField w (l .store) .shape .cr) (o .cr) (f .cr) (old .out-cr)))))))
 
   abbrev theField : Field
-  theField = fieldNamed (a .shape)
-
-  abbrev theParity : Parity
-  theParity = parityNamed (a .parity)
-
-  abbrev theTime : Time
-  theTime = timeNamed (a .timed) (a .time)
+  theField = fieldNamed (o .shape)
 
   -- what the call promises of its number r and of the places
-  abbrev Ends : ℕ → Places → Type 0
-  Ends r new =
-      (r
-      ≡ pushNamedNo (a .parity) (a .timed) (length (old .state)) theWeaver (givenOf theField (a .luma) (a .cb) (a .cr)) (length (old .store)) (length (old .out-luma))
-      (length (old .out-cb)) (length (old .out-cr)))
-      × ((new .state ≡ written r (keeping (pushWeaver 0 theWeaver theField theParity theTime) (old .state)) (old .state))
-      × ((new .store ≡ pushStore r theWeaver (givenOf theField (a .luma) (a .cb) (a .cr)) theParity (old .store))
-      × ((new .out-luma
-      ≡ pushOut r theWeaver theField theParity (keptField theWeaver (old .store) .luma) (keptField theWeaver (old .store) .shape .luma) (a .luma)
-      (linesNamed (a .shape .luma)) (old .out-luma))
-      × ((new .out-cb
-      ≡ pushOut r theWeaver theField theParity (keptField theWeaver (old .store) .cb) (keptField theWeaver (old .store) .shape .cb) (a .cb)
-      (linesNamed (a .shape .cb)) (old .out-cb))
-      × ((new .out-cr
-      ≡ pushOut r theWeaver theField theParity (keptField theWeaver (old .store) .cr) (keptField theWeaver (old .store) .shape .cr) (a .cr)
-      (linesNamed (a .shape .cr)) (old .out-cr))
-      × ((new .picture ≡ written r (pictureNumber (pictureTimes theWeaver theField theParity)) (old .picture))
-      × ((new .earlier-timed ≡ written r (timedNumber (pictureTimes theWeaver theField theParity)) (old .earlier-timed))
-      × (new .earlier-time ≡ written r (timeNumber (pictureTimes theWeaver theField theParity)) (old .earlier-time)))))))))
+  abbrev Ends : ℕ → List ℕ → List ℕ → Places → Type 0
+  Ends r state store new =
+      (r ≡ pushNo l o)
+      × ((state ≡ stateAfter r l o)
+      × ((store ≡ storeAfter r l o)
+      × ((new .out-luma ≡ lumaAfter r l o (old .out-luma))
+      × ((new .out-cb ≡ cbAfter r l o (old .out-cb))
+      × ((new .out-cr ≡ crAfter r l o (old .out-cr))
+      × ((new .picture ≡ pictureAfter r l o (old .picture))
+      × ((new .earlier-timed ≡ timedAfter r l o (old .earlier-timed))
+      × (new .earlier-time ≡ timeAfter r l o (old .earlier-time)))))))))
 
-  abbrev firstOf : ℕ
-  firstOf = firstStep (leb (a .parity) 1 && leb (a .timed) 1) (goodField theField) (chromaFits theField) (leb 56 (length (old .state)))
+  abbrev pub firstOf : ℕ
+  firstOf = firstStep (leb (o .parity) 1 && leb (o .timed) 1) (goodField theField) (chromaFits theField) (leb 56 (length (l .state)))
 
   -- the tests behind
   abbrev behind : List (ℕ × Bool)
   behind = (
     7,
-    cond (fits theWeaver theField theParity) (roomFor theField (length (old .out-luma)) (length (old .out-cb)) (length (old .out-cr)))
-        (leb (fieldBytes (theField .luma .width) (theField .luma .height) (theField .luma .depth)) (length (old .store))),
+    cond (fits (weaverOf l) theField (parityIn o)) (roomFor theField (o .luma-room) (o .cb-room) (o .cr-room))
+        (leb (fieldBytes (theField .luma .width) (theField .luma .height) (theField .luma .depth)) (length (l .store))),
   )
       ∷ []
 
-  pub refused-first : {r : ℕ} → r ≡ firstOf → (r ≡ 0 → ⊥) → Ends r old
+  pub refused-first : {r : ℕ} → r ≡ firstOf → (r ≡ 0 → ⊥) → Ends r (l .state) (l .store) old
   refused-first {r} e z = (
     e
-        ∙ first-step-refuses (whole (givenOf theField (a .luma) (a .cb) (a .cr))) (leb (keptBytes theWeaver) (length (old .store))) behind
-        (leb (a .parity) 1 && leb (a .timed) 1) (goodField theField) (chromaFits theField) (leb 56 (length (old .state))) (λ zero. z (e ∙ zero)),
+        ∙ first-step-refuses (whole (given o)) (leb (keptBytes (weaverOf l)) (length (l .store))) behind (leb (o .parity) 1 && leb (o .timed) 1)
+        (goodField theField) (chromaFits theField) (leb 56 (length (l .state))) (λ zero. z (e ∙ zero)),
     (stays _ _ z, (stays _ _ z, (stays _ _ z, (stays _ _ z, (stays _ _ z, (stays _ _ z, (stays _ _ z, stays _ _ z))))))),
   )
 
   -- by the names that the contract uses
   pub renamed :
       {w : Weaver} {f : Field} {p : Parity} {t : Time} (answer : Paired) (after : Weaver) (store luma cb cr : List ℕ) →
-      w ≡ theWeaver → f ≡ theField → p ≡ theParity → t ≡ theTime →
-      Said w f p t answer after store luma cb cr → Said theWeaver theField theParity theTime answer after store luma cb cr
+      w ≡ weaverOf l → f ≡ theField → p ≡ parityIn o → t ≡ timeIn o →
+      Said w f p t answer after store luma cb cr → Said (weaverOf l) theField (parityIn o) (timeIn o) answer after store luma cb cr
   renamed {w} {f} {p} {t} answer after store luma cb cr we fe pe te s =
-      subst (λ (x : Weaver). Said x theField theParity theTime answer after store luma cb cr) we
-      (subst (λ (x : Field). Said w x theParity theTime answer after store luma cb cr) fe
-      (subst (λ (x : Parity). Said w f x theTime answer after store luma cb cr) pe
+      subst (λ (x : Weaver). Said x theField (parityIn o) (timeIn o) answer after store luma cb cr) we
+      (subst (λ (x : Field). Said w x (parityIn o) (timeIn o) answer after store luma cb cr) fe
+      (subst (λ (x : Parity). Said w f x (timeIn o) answer after store luma cb cr) pe
       (subst (λ (x : Time). Said w f p x answer after store luma cb cr) te s)))
 
   module _ (passed : firstOf ≡ 0) (answer : Paired) (after : Weaver) (store luma cb cr : List ℕ)
-      (s : Said theWeaver theField theParity theTime answer after store luma cb cr) {no : ℕ} (said : no ≡ pairedNo answer) where
-    number :
-        no
-        ≡ pushNamedNo (a .parity) (a .timed) (length (old .state)) theWeaver (givenOf theField (a .luma) (a .cb) (a .cr)) (length (old .store)) (length (old .out-luma))
-        (length (old .out-cb)) (length (old .out-cr))
+      (s : Said (weaverOf l) theField (parityIn o) (timeIn o) answer after store luma cb cr) {no : ℕ} (said : no ≡ pairedNo answer) where
+    number : no ≡ pushNo l o
     number =
         said
         ∙ s .0
-        ∙ first-step-passes (whole (givenOf theField (a .luma) (a .cb) (a .cr))) (leb (keptBytes theWeaver) (length (old .store))) behind
-        (leb (a .parity) 1 && leb (a .timed) 1) (goodField theField) (chromaFits theField) (leb 56 (length (old .state))) passed
+        ∙ first-step-passes (whole (given o)) (leb (keptBytes (weaverOf l)) (length (l .store))) behind (leb (o .parity) 1 && leb (o .timed) 1)
+        (goodField theField) (chromaFits theField) (leb 56 (length (l .state))) passed
 
     -- the store and the outputs, whichever the number
     module _ {r : ℕ} (e : pairedNo answer ≡ r) where
-      the-store : store ≡ pushStore r theWeaver (givenOf theField (a .luma) (a .cb) (a .cr)) theParity (old .store)
-      the-store = s .1 .1 .1 .0 ∙ ap (λ (n : ℕ). pushStore n theWeaver (givenOf theField (a .luma) (a .cb) (a .cr)) theParity (old .store)) e
+      the-store : store ≡ storeAfter r l o
+      the-store = s .1 .1 .1 .0 ∙ ap (λ (n : ℕ). storeAfter n l o) e
 
-      the-luma :
-          luma
-          ≡ pushOut r theWeaver theField theParity (keptField theWeaver (old .store) .luma) (keptField theWeaver (old .store) .shape .luma) (a .luma)
-          (linesNamed (a .shape .luma)) (old .out-luma)
-      the-luma =
-          s .1 .1 .1 .1 .0
-          ∙ ap
-          (λ (n : ℕ).
-          pushOut n theWeaver theField theParity (keptField theWeaver (old .store) .luma) (keptField theWeaver (old .store) .shape .luma) (a .luma)
-          (linesNamed (a .shape .luma)) (old .out-luma)) e
+      the-luma : luma ≡ lumaAfter r l o (old .out-luma)
+      the-luma = s .1 .1 .1 .1 .0 ∙ ap (λ (n : ℕ). lumaAfter n l o (old .out-luma)) e
 
-      the-cb :
-          cb
-          ≡ pushOut r theWeaver theField theParity (keptField theWeaver (old .store) .cb) (keptField theWeaver (old .store) .shape .cb) (a .cb)
-          (linesNamed (a .shape .cb)) (old .out-cb)
-      the-cb =
-          s .1 .1 .1 .1 .1 .0
-          ∙ ap
-          (λ (n : ℕ).
-          pushOut n theWeaver theField theParity (keptField theWeaver (old .store) .cb) (keptField theWeaver (old .store) .shape .cb) (a .cb)
-          (linesNamed (a .shape .cb)) (old .out-cb)) e
+      the-cb : cb ≡ cbAfter r l o (old .out-cb)
+      the-cb = s .1 .1 .1 .1 .1 .0 ∙ ap (λ (n : ℕ). cbAfter n l o (old .out-cb)) e
 
-      the-cr :
-          cr
-          ≡ pushOut r theWeaver theField theParity (keptField theWeaver (old .store) .cr) (keptField theWeaver (old .store) .shape .cr) (a .cr)
-          (linesNamed (a .shape .cr)) (old .out-cr)
-      the-cr =
-          s .1 .1 .1 .1 .1 .1
-          ∙ ap
-          (λ (n : ℕ).
-          pushOut n theWeaver theField theParity (keptField theWeaver (old .store) .cr) (keptField theWeaver (old .store) .shape .cr) (a .cr)
-          (linesNamed (a .shape .cr)) (old .out-cr)) e
+      the-cr : cr ≡ crAfter r l o (old .out-cr)
+      the-cr = s .1 .1 .1 .1 .1 .1 ∙ ap (λ (n : ℕ). crAfter n l o (old .out-cr)) e
 
     pub refused-then :
         (no ≡ 0 → ⊥) →
-        Ends no
+        Ends no (l .state) store
         record {
-          state = old .state;
-          store = store;
           out-luma = luma;
           out-cb = cb;
           out-cr = cr;
@@ -243,28 +204,19 @@ module _ (a : Call) (old : Places) where
 
     pub taken :
         no ≡ 0 → (state : List ℕ) (picture timed : ℕ) (time : ℤ) (earlier : Time) →
-        state ≡ keeping after (old .state) →
+        state ≡ keeping after (l .state) →
         (timedNumber (earlier ∷ []) ≡ timedNumber (timesIn answer)) × (timeNumber (earlier ∷ []) ≡ timeNumber (timesIn answer)) →
         picture ≡ pictureNumber (timesIn answer) → timed ≡ timedNumber (earlier ∷ []) → time ≡ timeNumber (earlier ∷ []) →
-        Ends 0
-        record {
-          state = state;
-          store = store;
-          out-luma = luma;
-          out-cb = cb;
-          out-cr = cr;
-          picture = picture;
-          earlier-timed = timed;
-          earlier-time = time;
-        }
+        Ends 0 state store
+        record { out-luma = luma; out-cb = cb; out-cr = cr; picture = picture; earlier-timed = timed; earlier-time = time }
     taken z state picture timed time earlier kept-state known at-picture at-timed at-time =
         let zero : pairedNo answer ≡ 0 = sym said ∙ z in
-        let times = times-in answer (pictureTimes theWeaver theField theParity) zero (s .1 .0) in (
+        let times = times-in answer (timesGiven l o) zero (s .1 .0) in (
           sym z ∙ number,
           (
             kept-state
-                ∙ ap (λ (w : Weaver). keeping w (old .state))
-                (s .1 .1 .0 ∙ ap (λ (n : ℕ). pushWeaver n theWeaver theField theParity theTime) zero),
+                ∙ ap (λ (w : Weaver). keeping w (l .state))
+                (s .1 .1 .0 ∙ ap (λ (n : ℕ). pushWeaver n (weaverOf l) theField (parityIn o) (timeIn o)) zero),
             (
               the-store zero,
               (

@@ -1,26 +1,53 @@
 -- What the exported functions' contracts come to. proofs/Claims.antt proves each claim under its name in small letters. Assumes nothing.
-use Prim.Native.Nat.{ℕ, _<_, _^_}
+use Prim.Native.Nat.{ℕ, _≤_, _<_, _^_}
 use mathlib.Core.Path.{_≡_}
 use mathlib.Core.List.{List}
-use lib.IntN.{ℤ}
+use lib.IntN.{ℤ, pos}
+use lib.ListN.{length}
 use Rattle.laws.specs.Refusal.{Says}
-use Rattle.field.specs.Field.{parityNamed}
-use Rattle.weave.specs.Weave.{Given}
+use Rattle.laws.specs.Rows.{over}
+use Rattle.weave.specs.Weave.{givenOf, weaveTests, lineTests}
 use Rattle.weaver.specs.declared.Weaver.{Weaver}
-use Rattle.weaver.specs.Weaver.{pushWeaver}
+use Rattle.weaver.specs.Weaver.{wovenBy}
+use Rattle.weaver.specs.History.{Sent, Waiting, none, waits, mateOf, waitingAfter, taken}
+use Rattle.readback.specs.Readback.{readbackTests}
 use Rattle.weavedesk.specs.declared.LinesNumbers.{LinesNumbers}
 use Rattle.weavedesk.specs.declared.FieldNumbers.{FieldNumbers}
-use Rattle.weavedesk.specs.Woven.{fieldNamed, lineOutTests}
-use Rattle.weavedesk.specs.Waiting.{wholeSize, timeSize, timeNamed, weaverIn, keeping, pushNamedTests}
+use Rattle.weavedesk.specs.declared.ReadbackNumbers.{ReadbackNumbers}
+use Rattle.weavedesk.specs.Woven.{linesNamed, fieldNamed, readbackNamed, lineOutTests}
+use Rattle.weavedesk.specs.Waiting.{wholeSize, timeSize, weaverIn, keeping}
+use Rattle.weavedesk.specs.Push.{Lent, Offer, newTests, clearTests, pushTests, pushNo, weaverAfter, lumaAfter, cbAfter, crAfter, pictureAfter, timedAfter, timeAfter}
+use Rattle.weavedesk.specs.History.{Call, after, linesMeant, fieldMeant, callsOf, timedOf, timeOf}
 
--- 0 exactly when no number applies, and otherwise the lowest that does
+-- ---- the numbers: 0 exactly when no number applies, and otherwise the lowest that does, of each call's own tests
+
+abbrev pub WeaveSays : Type 0
+WeaveSays =
+    (top : FieldNumbers) (top-luma top-cb top-cr : List ℕ) (bottom : FieldNumbers) (bottom-luma bottom-cb bottom-cr : List ℕ) (luma-room cb-room cr-room : ℕ)
+    → Says
+    (weaveTests (givenOf (fieldNamed top) top-luma top-cb top-cr) (givenOf (fieldNamed bottom) bottom-luma bottom-cb bottom-cr) luma-room cb-room cr-room)
+
+abbrev pub LineSays : Type 0
+LineSays = (t : LinesNumbers) (top-bytes : ℕ) (b : LinesNumbers) (bottom-bytes y : ℕ) → Says (lineTests (linesNamed t) top-bytes (linesNamed b) bottom-bytes y)
+
 abbrev pub LineOutSays : Type 0
 LineOutSays = (t : LinesNumbers) (top-bytes : ℕ) (b : LinesNumbers) (bottom-bytes y room : ℕ) → Says (lineOutTests t top-bytes b bottom-bytes y room)
 
+abbrev pub ReadbackSays : Type 0
+ReadbackSays =
+    (about : ReadbackNumbers) (luma second third luma-room cb-room cr-room : ℕ)
+    → Says (readbackTests (readbackNamed about) luma second third luma-room cb-room cr-room)
+
+abbrev pub NewSays : Type 0
+NewSays = (state : ℕ) → Says (newTests state)
+
+abbrev pub ClearSays : Type 0
+ClearSays = (state : ℕ) → Says (clearTests state)
+
 abbrev pub PushSays : Type 0
-PushSays =
-    (parity timed state : ℕ) (w : Weaver) (g : Given) (store luma-room cb-room cr-room : ℕ)
-    → Says (pushNamedTests parity timed state w g store luma-room cb-room cr-room)
+PushSays = (l : Lent) (o : Offer) → Says (pushTests l o)
+
+-- ---- states
 
 -- a weaver whose numbers have the sizes of their places, as every weaver of the code has
 pub record Sized (w : Weaver) : Type 0 where
@@ -33,11 +60,56 @@ pub record Sized (w : Weaver) : Type 0 where
 abbrev pub FoundAgain : Type 0
 FoundAgain = (w : Weaver) (bytes : List ℕ) → Sized w → weaverIn (keeping w bytes) ≡ w
 
--- What bytes hold, and what a push leaves, is such a weaver, whichever bytes they are; a time of 64 bits has a size below 2 ^ 63.
+-- What bytes hold, and what a push that gets 0 leaves, is such a weaver, whichever bytes they are; a time of 64 bits has a size below 2 ^ 63.
 abbrev pub AlwaysSized : Type 0
 AlwaysSized = (bytes : List ℕ) → Sized (weaverIn bytes)
 
 abbrev pub PushSized : Type 0
-PushSized =
-    (bytes : List ℕ) (shape : FieldNumbers) (parity timed : ℕ) (at : ℤ) → wholeSize at < 2 ^ 63
-    → Sized (pushWeaver 0 (weaverIn bytes) (fieldNamed shape) (parityNamed parity) (timeNamed timed at))
+PushSized = (l : Lent) (o : Offer) → pushNo l o ≡ 0 → wholeSize (o .time) < 2 ^ 63 → Sized (weaverAfter l o)
+
+-- ---- over calls
+
+-- What a push gives that gets 0, at each place that is lent. A field with no mate gives no picture and leaves the outputs as they were.
+pub record NoPicture (l : Lent) (o : Offer) : Type 0 where
+  pub picture : (old : ℕ) → pictureAfter (pushNo l o) l o old ≡ 0
+  pub timed : (old : ℕ) → timedAfter (pushNo l o) l o old ≡ 0
+  pub time : (old : ℤ) → timeAfter (pushNo l o) l o old ≡ pos 0
+  pub luma : (out : List ℕ) → lumaAfter (pushNo l o) l o out ≡ out
+  pub cb : (out : List ℕ) → cbAfter (pushNo l o) l o out ≡ out
+  pub cr : (out : List ℕ) → crAfter (pushNo l o) l o out ≡ out
+
+-- A field with a mate gives the two woven as the host gave them, plane by plane, and the mate's time.
+pub record Picture (l : Lent) (first : Sent) (o : Offer) : Type 0 where
+  pub picture : (old : ℕ) → pictureAfter (pushNo l o) l o old ≡ 1
+  pub timed : (old : ℕ) → timedAfter (pushNo l o) l o old ≡ timedOf (first .time)
+  pub time : (old : ℤ) → timeAfter (pushNo l o) l o old ≡ timeOf (first .time)
+  pub luma :
+      (out : List ℕ)
+      → lumaAfter (pushNo l o) l o out
+      ≡ over (wovenBy (first .parity) (first .field .luma) (first .field .shape .luma) (o .luma) (linesMeant (o .shape .luma))) out
+  pub cb :
+      (out : List ℕ)
+      → cbAfter (pushNo l o) l o out ≡ over (wovenBy (first .parity) (first .field .cb) (first .field .shape .cb) (o .cb) (linesMeant (o .shape .cb))) out
+  pub cr :
+      (out : List ℕ)
+      → crAfter (pushNo l o) l o out ≡ over (wovenBy (first .parity) (first .field .cr) (first .field .shape .cr) (o .cr) (linesMeant (o .shape .cr))) out
+
+abbrev pub Gives : Waiting → Lent → Offer → Type 0
+Gives none l o = NoPicture l o
+Gives (waits first) l o = Picture l first o
+
+-- Over any exported calls the pictures and times are exactly those of the pairs that the paper names, of the fields that the host gave. A state of
+-- fewer than 56 bytes is no state: `new` refuses it with 7, every other call with 6 or a lower number, and none changes it (`TooShort`). What is
+-- lent stays as long as it is.
+abbrev pub PairsWoven : Type 0
+PairsWoven =
+    (state store : List ℕ) (o : Offer) (earlier : List Call) → 56 ≤ length state → pushNo (after state store earlier) o ≡ 0
+    → Gives (mateOf (waitingAfter (taken (length store) (callsOf earlier))) (fieldMeant o)) (after state store earlier) o
+
+-- With a shorter one every call is refused, and state and store stay as they were.
+pub record Unchanged (state store : List ℕ) (earlier : List Call) : Type 0 where
+  pub left : after state store earlier ≡ record { state = state; store = store }
+  pub refused : (o : Offer) → pushNo (after state store earlier) o ≡ 0 → ⊥
+
+abbrev pub TooShort : Type 0
+TooShort = (state store : List ℕ) (earlier : List Call) → length state < 56 → Unchanged state store earlier

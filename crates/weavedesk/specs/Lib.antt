@@ -1,5 +1,7 @@
--- The definitions that the exported functions' contracts cite, and the claims. Assumes nothing.
+-- The definitions that the exported functions' contracts cite, histories of calls, and the claims. Assumes nothing.
 pub mod Woven
 pub mod Waiting
+pub mod Push
 pub mod Inner
+pub mod History
 pub mod Claims

@@ -1,19 +1,16 @@
 -- A weaver kept in lent bytes between calls: 7 numbers of eight bytes. Every list of bytes is some weaver, so that no call has to trust what it is
 -- lent. Assumes nothing.
 use Prim.Native.Nat.{ℕ, _%_, _^_}
-use mathlib.Core.Bool.{Bool, cond, _&&_}
+use mathlib.Core.Bool.{cond}
 use mathlib.Core.List.{List, [], _∷_}
-use lib.Dec.{leb, eqb}
+use lib.Dec.{eqb}
 use lib.IntN.{ℤ, pos, negsuc}
-use Rattle.laws.specs.Refusal.{lowest}
 use Rattle.laws.specs.Rows.{over}
 use Rattle.field.specs.Field.{firstRowOf, parityNamed}
 use Rattle.packed.specs.Packed.{packedOf, numberAt}
-use Rattle.weave.specs.Weave.{Given, goodField, chromaFits, whole, roomFor}
 use Rattle.weaver.specs.declared.Time.{Time}
 use Rattle.weaver.specs.declared.Time.the-variants as time
 use Rattle.weaver.specs.declared.Weaver.{Weaver}
-use Rattle.weaver.specs.Weaver.{fits, fieldBytes, keptBytes}
 use Rattle.weavedesk.specs.Woven.{flagNamed, flagNumber}
 
 -- the bytes that a state needs
@@ -62,49 +59,3 @@ weaverIn bytes = record {
 -- bytes with a weaver written at their front
 abbrev pub keeping : Weaver → List ℕ → List ℕ
 keeping w bytes = over (packedOf (weaverNumbers w)) bytes
-
--- ---- numbers
-
-abbrev pub newNo : ℕ → ℕ
-newNo state = lowest ((7, leb stateBytes state) ∷ [])
-
-abbrev pub clearNo : ℕ → ℕ
-clearNo state = lowest ((6, leb stateBytes state) ∷ [])
-
--- where `timed` is 0 there is no time
-abbrev pub timeNamed : ℕ → ℤ → Time
-timeNamed timed at = cond (eqb timed 0) time.Absent (time.At at)
-
--- 3: parity or `timed` is neither 0 nor 1. 6: also where the state is too short. The rest as for the weaver.
-abbrev pub pushNamedTests : ℕ → ℕ → ℕ → Weaver → Given → ℕ → ℕ → ℕ → ℕ → List (ℕ × Bool)
-pushNamedTests parity timed state w g store luma-room cb-room cr-room =
-    (3, leb parity 1 && leb timed 1)
-    ∷ (4, goodField (g .shape))
-    ∷ (5, chromaFits (g .shape))
-    ∷ (6, leb stateBytes state && whole g && leb (keptBytes w) store)
-    ∷ (
-      7,
-      cond (fits w (g .shape) (parityNamed parity)) (roomFor (g .shape) luma-room cb-room cr-room)
-          (leb (fieldBytes (g .shape .luma .width) (g .shape .luma .height) (g .shape .luma .depth)) store),
-    )
-    ∷ []
-
-abbrev pub pushNamedNo : ℕ → ℕ → ℕ → Weaver → Given → ℕ → ℕ → ℕ → ℕ → ℕ
-pushNamedNo parity timed state w g store luma-room cb-room cr-room =
-    lowest (pushNamedTests parity timed state w g store luma-room cb-room cr-room)
-
--- ---- what goes to the lent places: whether there is a picture, whether its earlier field had a time, and that time, else 0
-
-abbrev pub pictureNumber : List Time → ℕ
-pictureNumber [] = 0
-pictureNumber (at ∷ more) = 1
-
-abbrev pub timedNumber : List Time → ℕ
-timedNumber [] = 0
-timedNumber (time.Absent ∷ more) = 0
-timedNumber (time.At at ∷ more) = 1
-
-abbrev pub timeNumber : List Time → ℤ
-timeNumber [] = pos 0
-timeNumber (time.Absent ∷ more) = pos 0
-timeNumber (time.At at ∷ more) = at

@@ -1,6 +1,6 @@
--- Weaving and readback by number (document 01, "Fields and readback", "What the desk gets back"). A number too large for its place counts as the
--- largest there, which is out of bounds too. Assumes nothing.
-use Prim.Native.Nat.{ℕ, min}
+-- Weaving and readback by number (document 01, "Fields and readback", "What the desk gets back"). Numbers are meant as the host gives them, however
+-- large they are. Assumes nothing.
+use Prim.Native.Nat.{ℕ}
 use mathlib.Core.Bool.{Bool, true, false, not}
 use mathlib.Core.List.{List, [], _∷_, _++_}
 use lib.Dec.{leb, eqb}
@@ -16,7 +16,7 @@ use Rattle.weavedesk.specs.declared.FormatNumbers.{FormatNumbers}
 use Rattle.weavedesk.specs.declared.ReadbackNumbers.{ReadbackNumbers}
 
 abbrev pub linesNamed : LinesNumbers → Lines
-linesNamed n = record { width = min (n .width) 65535; height = min (n .height) 65535; depth = min (n .depth) 255; stride = n .stride }
+linesNamed n = record { width = n .width; height = n .height; depth = n .depth; stride = n .stride }
 
 abbrev pub fieldNamed : FieldNumbers → Field
 fieldNamed n = record { luma = linesNamed (n .luma); cb = linesNamed (n .cb); cr = linesNamed (n .cr) }
@@ -41,7 +41,7 @@ abbrev pub formatNamed : FormatNumbers → Format
 formatNamed n = record {
   width = n .width;
   height = n .height;
-  depth = min (n .depth) 255;
+  depth = n .depth;
   «rate_numerator» = n .«rate_numerator»;
   «rate_denominator» = n .«rate_denominator»;
   «field_pictures» = flagNamed (n .«field_pictures»);
@@ -63,10 +63,10 @@ formatNumbers f = record {
 
 abbrev pub readbackNamed : ReadbackNumbers → Readback
 readbackNamed n = record {
-  planes = min (n .planes) 255;
-  width = min (n .width) 65535;
-  height = min (n .height) 65535;
-  depth = min (n .depth) 255;
+  planes = n .planes;
+  width = n .width;
+  height = n .height;
+  depth = n .depth;
   «luma_pitch» = n .«luma_pitch»;
   «second_pitch» = n .«second_pitch»;
   «third_pitch» = n .«third_pitch»;

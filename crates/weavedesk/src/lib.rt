@@ -18,10 +18,11 @@ ghost use Rattle.laws.specs.Rows.{over};
 ghost use Rattle.field.specs.Field.{parityNamed};
 ghost use Rattle.weave.specs.Weave.{givenOf, wovenPlane, wovenLine, weaveNo, lineNo, wovenFormat};
 ghost use Rattle.readback.specs.Readback.{lumaShape, cbShape, crShape, crBytes, readbackNo, copiedOf};
-ghost use Rattle.weaver.specs.Weaver.{pairedNo, emptyWeaver, keptField, pictureTimes, pushWeaver, pushStore, pushOut};
+ghost use Rattle.weaver.specs.Weaver.{pairedNo};
 ghost use Rattle.weavedesk.specs.Woven.{linesNamed, fieldNamed, lineOutNo, formatNamed, formatNumbers, readbackNamed, flagNamed, flagNumber};
-ghost use Rattle.weavedesk.specs.Waiting.{keeping, weaverIn, weaverNumbers, newNo, clearNo, timeNamed, timeOf, wholeKind, wholeSize, timeKind, timeSize, pushNamedNo, pictureNumber, timedNumber, timeNumber};
-ghost use Rattle.weavedesk.specs.Inner.{timesIn};
+ghost use Rattle.weavedesk.specs.Waiting.{keeping, weaverIn, weaverNumbers, timeOf, wholeKind, wholeSize, timeKind, timeSize};
+ghost use Rattle.weavedesk.specs.Push.{lent, offer, newNo, clearNo, emptied, timeNamed, pushNo, stateAfter, storeAfter, lumaAfter, cbAfter, crAfter, pictureNumber, timedNumber, timeNumber, pictureAfter, timedAfter, timeAfter};
+ghost use Rattle.weavedesk.specs.Inner.{linesCut, fieldCut, readbackCut, timesIn};
 
 // The lines of a plane of a field: sizes in samples, the stride in bytes.
 #[repr(C)]
@@ -65,8 +66,10 @@ pub struct ReadbackNumbers {
     pub third_pitch: u32,
 }
 
-fn lines_named(lines: LinesNumbers) -> weave::Lines
-    ensures { λ r. ⌜ r ≡ linesNamed lines ⌝ }
+// Numbers narrowed for the crates beneath. One that is too large for its place becomes the largest
+// there, which is out of bounds too, so that it is refused all the same.
+fn lines_cut(lines: LinesNumbers) -> weave::Lines
+    ensures { λ r. ⌜ r ≡ linesCut lines ⌝ }
 {
     let width = planes::at_most_65535(lines.width);
     let height = planes::at_most_65535(lines.height);
@@ -79,12 +82,12 @@ fn lines_named(lines: LinesNumbers) -> weave::Lines
     }
 }
 
-fn field_named(n: FieldNumbers) -> weave::Field
-    ensures { λ r. ⌜ r ≡ fieldNamed n ⌝ }
+fn field_cut(n: FieldNumbers) -> weave::Field
+    ensures { λ r. ⌜ r ≡ fieldCut n ⌝ }
 {
-    let luma = lines_named(n.luma);
-    let cb = lines_named(n.cb);
-    let cr = lines_named(n.cr);
+    let luma = lines_cut(n.luma);
+    let cb = lines_cut(n.cb);
+    let cr = lines_cut(n.cr);
     weave::Field {
         luma: luma,
         cb: cb,
@@ -107,14 +110,13 @@ fn flag_number(flag: bool) -> u32
 fn format_named(n: FormatNumbers) -> weave::Format
     ensures { λ r. ⌜ r ≡ formatNamed n ⌝ }
 {
-    let depth = planes::at_most_255(n.depth);
     let fields = flag_named(n.field_pictures);
     let progressive = flag_named(n.progressive);
     let woven = flag_named(n.woven);
     weave::Format {
         width: n.width,
         height: n.height,
-        depth: depth,
+        depth: n.depth,
         rate_numerator: n.rate_numerator,
         rate_denominator: n.rate_denominator,
         field_pictures: fields,
@@ -132,7 +134,7 @@ fn format_numbers(f: weave::Format) -> FormatNumbers
     FormatNumbers {
         width: f.width,
         height: f.height,
-        depth: f.depth as u32,
+        depth: f.depth,
         rate_numerator: f.rate_numerator,
         rate_denominator: f.rate_denominator,
         field_pictures: fields,
@@ -141,8 +143,8 @@ fn format_numbers(f: weave::Format) -> FormatNumbers
     }
 }
 
-fn readback_named(n: ReadbackNumbers) -> readback::Readback
-    ensures { λ r. ⌜ r ≡ readbackNamed n ⌝ }
+fn readback_cut(n: ReadbackNumbers) -> readback::Readback
+    ensures { λ r. ⌜ r ≡ readbackCut n ⌝ }
 {
     let planes = planes::at_most_255(n.planes);
     let width = planes::at_most_65535(n.width);
@@ -368,14 +370,37 @@ pub extern "C" fn desk_weave(
         out_luma,
         out_cb,
         out_cr,
-        field_named(top),
+        field_cut(top),
         top_luma,
         top_cb,
         top_cr,
-        field_named(bottom),
+        field_cut(bottom),
         bottom_luma,
         bottom_cb,
         bottom_cr,
+    )
+}
+
+// The number of a single line. It is outside by the height as given, which may be too large for its
+// place. Where it is inside, line 0 is too, and the numbers behind 3 are the same of every line.
+fn line_number(
+    top: LinesNumbers,
+    top_bytes: usize,
+    bottom: LinesNumbers,
+    bottom_bytes: usize,
+    y: u32,
+) -> u8
+    ensures { λ r. ⌜ r ≡ lineNo (linesNamed top) «top_bytes» (linesNamed bottom) «bottom_bytes» y ⌝ }
+{
+    if (top.height as u64) * 2 <= y as u64 {
+        return refusal::OUTSIDE;
+    }
+    weave::line_no(
+        lines_cut(top),
+        top_bytes,
+        lines_cut(bottom),
+        bottom_bytes,
+        0,
     )
 }
 
@@ -390,13 +415,7 @@ pub extern "C" fn desk_line_number(
 ) -> u8
     ensures { λ r. ⌜ r ≡ lineNo (linesNamed top) «top_bytes» (linesNamed bottom) «bottom_bytes» y ⌝ }
 {
-    weave::line_no(
-        lines_named(top),
-        top_bytes as usize,
-        lines_named(bottom),
-        bottom_bytes as usize,
-        y,
-    )
+    line_number(top, top_bytes as usize, bottom, bottom_bytes as usize, y)
 }
 
 // Copies a line to the front of an output that has room for it.
@@ -424,13 +443,17 @@ pub extern "C" fn desk_woven_line<'a>(
     ensures { λ r. ⌜ r ≡ lineOutNo «top_lines» (length (now (top .entry))) «bottom_lines» (length (now (bottom .entry))) y (length (now (out .entry))) ⌝ }
     ensures { λ r. ⌜ now (out .exit) ≡ written r (over (wovenLine (now (top .entry)) (linesNamed «top_lines») (now (bottom .entry)) (linesNamed «bottom_lines») y) (now (out .entry))) (now (out .entry)) ⌝ }
 {
-    let upper = lines_named(top_lines);
-    let lower = lines_named(bottom_lines);
-    let no = weave::line_no(upper, top.len(), lower, bottom.len(), y);
+    let no = line_number(top_lines, top.len(), bottom_lines, bottom.len(), y);
     if no != 0 {
         return no;
     }
-    let line = weave::woven_line(top, upper, bottom, lower, y);
+    let line = weave::woven_line(
+        top,
+        lines_cut(top_lines),
+        bottom,
+        lines_cut(bottom_lines),
+        y,
+    );
     if out.len() < line.len() {
         return refusal::SHORT_OUTPUT;
     }
@@ -438,8 +461,7 @@ pub extern "C" fn desk_woven_line<'a>(
     0
 }
 
-// The format of the frames woven from fields of a format. A depth above 255 counts as 255, a flag other
-// than 0 as 1.
+// The format of the frames woven from fields of a format. A flag other than 0 counts as 1.
 #[no_mangle]
 pub extern "C" fn desk_woven(field: FormatNumbers) -> FormatNumbers
     ensures { λ r. ⌜ r ≡ formatNumbers (wovenFormat (formatNamed field)) ⌝ }
@@ -467,7 +489,7 @@ pub extern "C" fn desk_readback(
         out_luma,
         out_cb,
         out_cr,
-        readback_named(about),
+        readback_cut(about),
         luma,
         second,
         third,
@@ -478,7 +500,7 @@ pub extern "C" fn desk_readback(
 #[no_mangle]
 pub extern "C" fn desk_weaver_new(state: &mut [u8]) -> u8
     ensures { λ r. ⌜ r ≡ newNo (length (now (state .entry))) ⌝ }
-    ensures { λ r. ⌜ now (state .exit) ≡ written r (keeping emptyWeaver (now (state .entry))) (now (state .entry)) ⌝ }
+    ensures { λ r. ⌜ now (state .exit) ≡ emptied r (now (state .entry)) ⌝ }
 {
     if state.len() < STATE_BYTES {
         return refusal::SHORT_OUTPUT;
@@ -491,7 +513,7 @@ pub extern "C" fn desk_weaver_new(state: &mut [u8]) -> u8
 #[no_mangle]
 pub extern "C" fn desk_weaver_clear(state: &mut [u8]) -> u8
     ensures { λ r. ⌜ r ≡ clearNo (length (now (state .entry))) ⌝ }
-    ensures { λ r. ⌜ now (state .exit) ≡ written r (keeping emptyWeaver (now (state .entry))) (now (state .entry)) ⌝ }
+    ensures { λ r. ⌜ now (state .exit) ≡ emptied r (now (state .entry)) ⌝ }
 {
     if state.len() < STATE_BYTES {
         return refusal::SHORT_INPUT;
@@ -522,18 +544,18 @@ pub extern "C" fn desk_weaver_push(
     earlier_timed: &mut u8,
     earlier_time: &mut i64,
 ) -> u8
-    ensures { λ r. ⌜ r ≡ pushNamedNo parity timed (length (now (state .entry))) (weaverIn (now (state .entry))) (givenOf (fieldNamed shape) (now (luma .entry)) (now (cb .entry)) (now (cr .entry))) (length (now (store .entry))) (length (now («out_luma» .entry))) (length (now («out_cb» .entry))) (length (now («out_cr» .entry))) ⌝ }
-    ensures { λ r. ⌜ now (state .exit) ≡ written r (keeping (pushWeaver 0 (weaverIn (now (state .entry))) (fieldNamed shape) (parityNamed parity) (timeNamed timed time)) (now (state .entry))) (now (state .entry)) ⌝ }
-    ensures { λ r. ⌜ now (store .exit) ≡ pushStore r (weaverIn (now (state .entry))) (givenOf (fieldNamed shape) (now (luma .entry)) (now (cb .entry)) (now (cr .entry))) (parityNamed parity) (now (store .entry)) ⌝ }
-    ensures { λ r. ⌜ now («out_luma» .exit) ≡ pushOut r (weaverIn (now (state .entry))) (fieldNamed shape) (parityNamed parity) (keptField (weaverIn (now (state .entry))) (now (store .entry)) .luma) (keptField (weaverIn (now (state .entry))) (now (store .entry)) .shape .luma) (now (luma .entry)) (linesNamed (shape .luma)) (now («out_luma» .entry)) ⌝ }
-    ensures { λ r. ⌜ now («out_cb» .exit) ≡ pushOut r (weaverIn (now (state .entry))) (fieldNamed shape) (parityNamed parity) (keptField (weaverIn (now (state .entry))) (now (store .entry)) .cb) (keptField (weaverIn (now (state .entry))) (now (store .entry)) .shape .cb) (now (cb .entry)) (linesNamed (shape .cb)) (now («out_cb» .entry)) ⌝ }
-    ensures { λ r. ⌜ now («out_cr» .exit) ≡ pushOut r (weaverIn (now (state .entry))) (fieldNamed shape) (parityNamed parity) (keptField (weaverIn (now (state .entry))) (now (store .entry)) .cr) (keptField (weaverIn (now (state .entry))) (now (store .entry)) .shape .cr) (now (cr .entry)) (linesNamed (shape .cr)) (now («out_cr» .entry)) ⌝ }
-    ensures { λ r. ⌜ now (picture .exit) ≡ written r (pictureNumber (pictureTimes (weaverIn (now (state .entry))) (fieldNamed shape) (parityNamed parity))) (now (picture .entry)) ⌝ }
-    ensures { λ r. ⌜ now («earlier_timed» .exit) ≡ written r (timedNumber (pictureTimes (weaverIn (now (state .entry))) (fieldNamed shape) (parityNamed parity))) (now («earlier_timed» .entry)) ⌝ }
-    ensures { λ r. ⌜ now («earlier_time» .exit) ≡ written r (timeNumber (pictureTimes (weaverIn (now (state .entry))) (fieldNamed shape) (parityNamed parity))) (now («earlier_time» .entry)) ⌝ }
+    ensures { λ r. ⌜ r ≡ pushNo (lent state store) (offer parity timed time shape luma cb cr «out_luma» «out_cb» «out_cr») ⌝ }
+    ensures { λ r. ⌜ now (state .exit) ≡ stateAfter r (lent state store) (offer parity timed time shape luma cb cr «out_luma» «out_cb» «out_cr») ⌝ }
+    ensures { λ r. ⌜ now (store .exit) ≡ storeAfter r (lent state store) (offer parity timed time shape luma cb cr «out_luma» «out_cb» «out_cr») ⌝ }
+    ensures { λ r. ⌜ now («out_luma» .exit) ≡ lumaAfter r (lent state store) (offer parity timed time shape luma cb cr «out_luma» «out_cb» «out_cr») (now («out_luma» .entry)) ⌝ }
+    ensures { λ r. ⌜ now («out_cb» .exit) ≡ cbAfter r (lent state store) (offer parity timed time shape luma cb cr «out_luma» «out_cb» «out_cr») (now («out_cb» .entry)) ⌝ }
+    ensures { λ r. ⌜ now («out_cr» .exit) ≡ crAfter r (lent state store) (offer parity timed time shape luma cb cr «out_luma» «out_cb» «out_cr») (now («out_cr» .entry)) ⌝ }
+    ensures { λ r. ⌜ now (picture .exit) ≡ pictureAfter r (lent state store) (offer parity timed time shape luma cb cr «out_luma» «out_cb» «out_cr») (now (picture .entry)) ⌝ }
+    ensures { λ r. ⌜ now («earlier_timed» .exit) ≡ timedAfter r (lent state store) (offer parity timed time shape luma cb cr «out_luma» «out_cb» «out_cr») (now («earlier_timed» .entry)) ⌝ }
+    ensures { λ r. ⌜ now («earlier_time» .exit) ≡ timeAfter r (lent state store) (offer parity timed time shape luma cb cr «out_luma» «out_cb» «out_cr») (now («earlier_time» .entry)) ⌝ }
 {
     let named = (parity <= 1) & (timed <= 1);
-    let given = field_named(shape);
+    let given = field_cut(shape);
     let good = weave::good_field(given);
     let halved = weave::chroma_fits(given);
     let refused = refusal::lowest_of(named, good, halved, STATE_BYTES <= state.len(), true, true);

@@ -236,8 +236,8 @@ pub fn woven_line(
     }
 }
 
-/// The format of the frames woven from fields of a format. A depth above 255
-/// counts as 255, a flag other than 0 as 1. Never refused.
+/// The format of the frames woven from fields of a format. A flag other than 0
+/// counts as 1. Never refused.
 #[inline]
 pub fn woven(field: FormatNumbers) -> FormatNumbers {
     // SAFETY: the call takes every number, and touches no memory of ours.

@@ -1,7 +1,7 @@
 -- `answers::bytes` meets its contract. Assumes nothing.
 use borrow.Author.Needs.{needs}
 use native.Mathlib.Omega.{arith}
-use Rattle.answers.proofs.Parts.{cuts, leaves, misses}
+use Rattle.answers.proofs.Parts.{cuts, leaves, misses, cuts-at, leaves-at, misses-at}
 use Rattle.answers.proofs.bytes.Statement.{statement}
 use Rattle.answers.proofs.bytes.Tie as tie
 
@@ -56,17 +56,26 @@ part-result-end-3 c = search needs
 returns : tie.Need-returns
 returns c =
     let b = c .before .before .before in
-    cuts _ _ _ _ _ (b .before .number-at .ensures) (b .number-at2 .ensures) (omega arith) (omega arith)
+    let place = b .before .before .before .args .answer .ptr in (
+      cuts _ _ _ _ _ (b .before .number-at .ensures) (b .number-at2 .ensures) (omega arith) (omega arith),
+      cuts-at _ _ _ _ _ (b .before .number-at .ensures) (b .number-at2 .ensures) place (omega arith) (omega arith),
+    )
 
 returns-2 : tie.Need-returns-2
 returns-2 c =
     let b = c .before .before .before in
-    leaves _ _ _ _ _ (b .before .number-at .ensures) (b .number-at2 .ensures) (omega arith) (omega arith)
+    let place = b .before .before .before .args .answer .ptr in (
+      leaves _ _ _ _ _ (b .before .number-at .ensures) (b .number-at2 .ensures) (omega arith) (omega arith),
+      leaves-at _ _ _ _ _ (b .before .number-at .ensures) (b .number-at2 .ensures) place (omega arith) (omega arith),
+    )
 
 returns-3 : tie.Need-returns-3
 returns-3 c =
     let b = c .before .before in
-    misses _ _ _ _ _ (b .before .number-at .ensures) (b .number-at2 .ensures) (omega arith)
+    let place = b .before .before .before .args .answer .ptr in (
+      misses _ _ _ _ _ (b .before .number-at .ensures) (b .number-at2 .ensures) (omega arith),
+      misses-at _ _ _ _ _ (b .before .number-at .ensures) (b .number-at2 .ensures) place (omega arith),
+    )
 
 pub bytes-spec : {M : Type 1} → statement M
 bytes-spec =

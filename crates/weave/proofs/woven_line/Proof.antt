@@ -8,7 +8,7 @@ use denote.Ref.{now}
 use Rattle.laws.proofs.Refusal.{written-done, stays}
 use Rattle.weave.specs.Weave.{lineBytes}
 use Rattle.weave.specs.Claims.{Matched}
-use Rattle.weave.proofs.Fields.{same-size, top-ends, bottom-ends, top-line, bottom-line}
+use Rattle.weave.proofs.Fields.{same-size, top-ends, bottom-ends, top-line, bottom-line, top-place, bottom-place}
 use Rattle.weave.proofs.Judged.{line-judged}
 use borrow.Author.Needs.{needs}
 use Rattle.weave.proofs.woven_line.Statement.{statement}
@@ -108,9 +108,13 @@ returns c =
     let at = a .y / 2 * a .top-lines .stride in
     let n = call .line-bytes .result in
     let span : at + n - at ≡ lineBytes (a .top-lines) = omega (arith, call .line-bytes .ensures .0) in
-    written-done _ [] (sym (test .before .if1 .taken) ∙ number .line-no .ensures)
-    (ap (λ (k : ℕ). take k (drop at (now (a .top)))) span
-    ∙ sym (top-line (now (a .top)) (a .top-lines) (now (a .bottom)) (a .bottom-lines) (a .y) (test .if2 .taken)))
+    let zero = sym (test .before .if1 .taken) ∙ number .line-no .ensures in (
+      written-done _ [] zero
+          (ap (λ (k : ℕ). take k (drop at (now (a .top)))) span
+          ∙ sym (top-line (now (a .top)) (a .top-lines) (now (a .bottom)) (a .bottom-lines) (a .y) (test .if2 .taken))),
+      written-done _ (a .top .ptr) zero
+          (sym (top-place (a .top .ptr) (a .top-lines) (a .bottom .ptr) (a .bottom-lines) (a .y) (test .if2 .taken))),
+    )
 
 returns-2 : tie.Need-returns-2
 returns-2 c =
@@ -121,12 +125,22 @@ returns-2 c =
     let at = a .y / 2 * a .bottom-lines .stride in
     let n = call .line-bytes2 .result in
     let span : at + n - at ≡ lineBytes (a .bottom-lines) = omega (arith, call .line-bytes2 .ensures .0) in
-    written-done _ [] (sym (test .before .if1 .taken) ∙ number .line-no .ensures)
-    (ap (λ (k : ℕ). take k (drop at (now (a .bottom)))) span
-    ∙ sym (bottom-line (now (a .top)) (a .top-lines) (now (a .bottom)) (a .bottom-lines) (a .y) (test .if2 .left)))
+    let zero = sym (test .before .if1 .taken) ∙ number .line-no .ensures in (
+      written-done _ [] zero
+          (ap (λ (k : ℕ). take k (drop at (now (a .bottom)))) span
+          ∙ sym (bottom-line (now (a .top)) (a .top-lines) (now (a .bottom)) (a .bottom-lines) (a .y) (test .if2 .left))),
+      written-done _ (a .top .ptr) zero
+          (sym (bottom-place (a .top .ptr) (a .top-lines) (a .bottom .ptr) (a .bottom-lines) (a .y) (test .if2 .left))),
+    )
 
 returns-3 : tie.Need-returns-3
-returns-3 c = stays _ [] (λ z. c .before .if1 .left (c .before .before .line-no .ensures ∙ z))
+returns-3 c =
+    let call = c .before .before in
+    let top = call .before .before .before .args .top .ptr in
+    let front : 0 + top .1 ≡ top .1 = omega arith in (
+      stays _ [] (λ z. c .before .if1 .left (call .line-no .ensures ∙ z)),
+      (λ i. (top .0, front i)) ∙ stays _ top (λ z. c .before .if1 .left (call .line-no .ensures ∙ z)),
+    )
 
 pub woven-line-spec : {M : Type 1} → statement M
 woven-line-spec =

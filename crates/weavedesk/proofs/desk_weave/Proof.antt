@@ -1,19 +1,20 @@
--- `weavedesk::desk_weave` meets its contract: the answer is `weave::weave`'s own. Assumes nothing.
+-- `weavedesk::desk_weave` meets its contract: the answer is `weave::weave`'s own, of numbers narrowed for it. Assumes nothing.
 use borrow.Author.Needs.{needs}
-use mathlib.Core.Path.{_∙_}
+use mathlib.Core.Path.{_≡_, sym, _∙_}
 use lib.ListN.{length}
 use denote.Ref.{now}
-use Rattle.laws.specs.Refusal.{written}
 use Rattle.laws.specs.Rows.{over}
 use Rattle.weave.specs.Weave.{givenOf, weaveNo, wovenPlane}
+use Rattle.weavedesk.specs.Woven.{fieldNamed}
+use Rattle.weavedesk.proofs.Narrowed.{written-same, weave-number, weave-same}
 use Rattle.weavedesk.proofs.desk_weave.Statement.{statement}
 use Rattle.weavedesk.proofs.desk_weave.Tie as tie
 
-field-named-requires : tie.Need-field-named-requires
-field-named-requires c κs = search needs
+field-cut-requires : tie.Need-field-cut-requires
+field-cut-requires c κs = search needs
 
-field-named-requires-2 : tie.Need-field-named-requires-2
-field-named-requires-2 c κs = search needs
+field-cut-requires-2 : tie.Need-field-cut-requires-2
+field-cut-requires-2 c κs = search needs
 
 weave-requires : tie.Need-weave-requires
 weave-requires c κs = search needs
@@ -31,27 +32,34 @@ returns : tie.Need-returns
 returns c =
     let k = c .before .before .before .before .before .before in
     let a = k .before .before .before .before .before .before .before .before .before .before .before .before .before .before .before .args in
-    let top = k .before .before .field-named .ensures in
-    let bottom = k .before .field-named2 .ensures in (
-      k .weave .ensures .0
-          ∙ (λ i.
-          weaveNo (givenOf (top i) (now (a .top-luma)) (now (a .top-cb)) (now (a .top-cr)))
-          (givenOf (bottom i) (now (a .bottom-luma)) (now (a .bottom-cb)) (now (a .bottom-cr))) (length (now (a .out-luma))) (length (now (a .out-cb)))
-          (length (now (a .out-cr)))),
+    let top = k .before .before .field-cut .ensures in
+    let bottom = k .before .field-cut2 .ensures in
+    let r = k .weave .result in
+    let number =
+    k .weave .ensures .0
+    ∙ (λ i.
+    weaveNo (givenOf (top i) (now (a .top-luma)) (now (a .top-cb)) (now (a .top-cr)))
+    (givenOf (bottom i) (now (a .bottom-luma)) (now (a .bottom-cb)) (now (a .bottom-cr))) (length (now (a .out-luma))) (length (now (a .out-cb)))
+    (length (now (a .out-cr))))
+    ∙ weave-number (a .top) (a .bottom) (now (a .top-luma)) (now (a .top-cb)) (now (a .top-cr)) (now (a .bottom-luma)) (now (a .bottom-cb)) (now (a .bottom-cr))
+    (length (now (a .out-luma))) (length (now (a .out-cb))) (length (now (a .out-cr))) in
+    let same =
+    weave-same (a .top) (a .bottom) (now (a .top-luma)) (now (a .top-cb)) (now (a .top-cr)) (now (a .bottom-luma)) (now (a .bottom-cb)) (now (a .bottom-cr))
+    (length (now (a .out-luma))) (length (now (a .out-cb))) (length (now (a .out-cr))) in
+    let upper : r ≡ 0 → k .before .before .field-cut .result ≡ fieldNamed (a .top) = λ z. top ∙ same (sym number ∙ z) .0 in
+    let lower : r ≡ 0 → k .before .field-cut2 .result ≡ fieldNamed (a .bottom) = λ z. bottom ∙ same (sym number ∙ z) .1 in (
+      number,
       (
         k .weave .ensures .1 .0
-            ∙ (λ i.
-            written (k .weave .result)
-            (over (wovenPlane (now (a .top-luma)) (top i .luma) (now (a .bottom-luma)) (bottom i .luma)) (now (a .out-luma))) (now (a .out-luma))),
+            ∙ written-same r (now (a .out-luma))
+            (λ z. (λ i. over (wovenPlane (now (a .top-luma)) (upper z i .luma) (now (a .bottom-luma)) (lower z i .luma)) (now (a .out-luma)))),
         (
           k .weave .ensures .1 .1 .0
-              ∙ (λ i.
-              written (k .weave .result) (over (wovenPlane (now (a .top-cb)) (top i .cb) (now (a .bottom-cb)) (bottom i .cb)) (now (a .out-cb)))
-              (now (a .out-cb))),
+              ∙ written-same r (now (a .out-cb))
+              (λ z. (λ i. over (wovenPlane (now (a .top-cb)) (upper z i .cb) (now (a .bottom-cb)) (lower z i .cb)) (now (a .out-cb)))),
           k .weave .ensures .1 .1 .1
-              ∙ (λ i.
-              written (k .weave .result) (over (wovenPlane (now (a .top-cr)) (top i .cr) (now (a .bottom-cr)) (bottom i .cr)) (now (a .out-cr)))
-              (now (a .out-cr))),
+              ∙ written-same r (now (a .out-cr))
+              (λ z. (λ i. over (wovenPlane (now (a .top-cr)) (upper z i .cr) (now (a .bottom-cr)) (lower z i .cr)) (now (a .out-cr)))),
         ),
       ),
     )
@@ -60,8 +68,8 @@ pub desk-weave-spec : {M : Type 1} → statement M
 desk-weave-spec =
     tie.close
     (tie.spec
-    field-named-requires
-    field-named-requires-2
+    field-cut-requires
+    field-cut-requires-2
     weave-requires
     same-length
     same-length-2

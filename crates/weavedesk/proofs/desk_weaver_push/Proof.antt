@@ -9,24 +9,35 @@ use mir.Syntax.{w64}
 use mir.Val.{SFits}
 use mir.ValLaws.{toZ-ofZ}
 use borrow.Author.Needs.{needs}
-use Rattle.field.specs.Field.{parityNamed}
 use Rattle.weave.specs.Weave.{goodField, chromaFits}
 use Rattle.weavedesk.specs.Woven.{fieldNamed}
-use Rattle.weavedesk.specs.Waiting.{weaverIn, timeNamed}
-use Rattle.weavedesk.proofs.Push.{firstStep, state-room, Call, Places, Said, refused-first, renamed, refused-then, taken}
+use Rattle.weavedesk.specs.Push.{Lent, Offer, timeNamed, parityIn, timeIn, weaverOf}
+use Rattle.weavedesk.proofs.Push.{firstStep, state-room, first-same, field-same, Places, firstOf, Said, refused-first, renamed, refused-then, taken}
 use Rattle.weavedesk.proofs.desk_weaver_push.Statement.{statement}
 use Rattle.weavedesk.proofs.desk_weaver_push.Tie as tie
 
--- the call, and the places as they are lent
-abbrev given : tie.Start → Call
-given c = let a = c .args in
-    record { parity = a .parity; timed = a .timed; time = a .time; shape = a .shape; luma = now (a .luma); cb = now (a .cb); cr = now (a .cr) }
-
-abbrev lent : tie.Start → Places
-lent c = let a = c .args in
+-- the field that is offered, and what is lent
+abbrev offered : tie.Start → Offer
+offered c = let a = c .args in
     record {
-      state = now (a .state);
-      store = now (a .store);
+      parity = a .parity;
+      timed = a .timed;
+      time = a .time;
+      shape = a .shape;
+      luma = now (a .luma);
+      cb = now (a .cb);
+      cr = now (a .cr);
+      luma-room = length (now (a .out-luma));
+      cb-room = length (now (a .out-cb));
+      cr-room = length (now (a .out-cr));
+    }
+
+abbrev kept : tie.Start → Lent
+kept c = record { state = now (c .args .state); store = now (c .args .store) }
+
+abbrev places : tie.Start → Places
+places c = let a = c .args in
+    record {
       out-luma = now (a .out-luma);
       out-cb = now (a .out-cb);
       out-cr = now (a .out-cr);
@@ -35,20 +46,21 @@ lent c = let a = c .args in
       earlier-time = now (a .earlier-time);
     }
 
--- the first number, by the names of the contract
+-- the first number, of the numbers as given
 first-number :
-    (c : tie.After-lowest-of) → let a = c .before .before .before .before .before .before .before .before .before .before .before .before .args in
-    c .lowest-of .result
-    ≡ firstStep (leb (a .parity) 1 && leb (a .timed) 1) (goodField (fieldNamed (a .shape))) (chromaFits (fieldNamed (a .shape))) (leb 56 (length (now (a .state))))
+    (c : tie.After-lowest-of) → let start = c .before .before .before .before .before .before .before .before .before .before .before .before in
+    c .lowest-of .result ≡ firstOf (offered start) (kept start) (places start)
 first-number c =
     let a = c .before .before .before .before .before .before .before .before .before .before .before .before .args in
-    let shape = c .before .before .before .field-named .ensures in
+    let named = leb (a .parity) 1 && leb (a .timed) 1 in
+    let state = leb 56 (length (now (a .state))) in
+    let shape = c .before .before .before .field-cut .ensures in
     let good = c .before .before .good-field .ensures ∙ ap goodField shape in
     let halved = c .before .chroma-fits .ensures ∙ ap chromaFits shape in
-    c .lowest-of .ensures ∙ (λ i. firstStep (leb (a .parity) 1 && leb (a .timed) 1) (good i) (halved i) (leb 56 (length (now (a .state)))))
+    c .lowest-of .ensures ∙ (λ i. firstStep named (good i) (halved i) state) ∙ first-same (a .shape) named state
 
-field-named-requires : tie.Need-field-named-requires
-field-named-requires c κs = search needs
+field-cut-requires : tie.Need-field-cut-requires
+field-cut-requires c κs = search needs
 
 good-field-requires : tie.Need-good-field-requires
 good-field-requires c κs = search needs
@@ -62,7 +74,7 @@ lowest-of-requires c κs = search needs
 returns : tie.Need-returns
 returns c =
     let start = c .before .before .before .before .before .before .before .before .before .before .before .before .before in
-    refused-first (given start) (lent start) (first-number (c .before)) (c .if1 .taken)
+    refused-first (offered start) (kept start) (places start) (first-number (c .before)) (c .if1 .taken)
 
 weaver-in-requires : tie.Need-weaver-in-requires
 weaver-in-requires c κs = search needs
@@ -97,12 +109,16 @@ same-length-5 c = search needs
 -- what the weaver says, by the names of the contract
 answered :
     (k : tie.After-push) → let start = k .before .before .before .before .before .before .before .before .before .before .before .before .before .before .before .before .before .before .before .before .before .before in
-    Said (given start) (lent start) (weaverIn (now (start .args .state))) (fieldNamed (start .args .shape)) (parityNamed (start .args .parity)) (timeNamed (start .args .timed) (start .args .time)) (k .push .result .answer) (k .push .result .weaver)
+    firstOf (offered start) (kept start) (places start) ≡ 0 →
+    Said (offered start) (kept start) (places start) (weaverOf (kept start)) (fieldNamed (start .args .shape)) (parityIn (offered start)) (timeIn (offered start)) (k .push .result .answer) (k .push .result .weaver)
     (k .push .last .1 .1 .1 .1 .1 .1 .1 .0) (k .push .last .1 .1 .1 .1 .1 .1 .1 .1 .0) (k .push .last .1 .1 .1 .1 .1 .1 .1 .1 .1 .0) (k .push .last .1 .1 .1 .1 .1 .1 .1 .1 .1 .1 .0)
-answered k =
+answered k passed =
     let start = k .before .before .before .before .before .before .before .before .before .before .before .before .before .before .before .before .before .before .before .before .before .before in
-    renamed (given start) (lent start) (k .push .result .answer) (k .push .result .weaver) _ _ _ _ (k .before .before .before .before .before .before .before .weaver-in .ensures) (k .before .before .before .before .before .before .before .before .before .before .before .before .before .field-named .ensures)
-    (k .before .before .before .before .before .before .named .ensures) (k .before .before .before .before .before .time-named .ensures ∙ ap (timeNamed (start .args .timed)) (toZ-ofZ w64 (start .args .time) (start .fits .time)))
+    let a = start .args in
+    renamed (offered start) (kept start) (places start) (k .push .result .answer) (k .push .result .weaver) _ _ _ _ (k .before .before .before .before .before .before .before .weaver-in .ensures)
+    (k .before .before .before .before .before .before .before .before .before .before .before .before .before .field-cut .ensures
+    ∙ field-same (a .shape) (leb (a .parity) 1 && leb (a .timed) 1) (leb 56 (length (now (a .state)))) passed)
+    (k .before .before .before .before .before .before .named .ensures) (k .before .before .before .before .before .time-named .ensures ∙ ap (timeNamed (a .timed)) (toZ-ofZ w64 (a .time) (start .fits .time)))
     (k .push .ensures)
 
 returns-2 : tie.Need-returns-2
@@ -110,8 +126,8 @@ returns-2 c =
     let k = c .before .before .before .before .before .before .before .before .before .before .before in
     let judged = k .before .before .before .before .before .before .before .before .before .before in
     let start = judged .before .before .before .before .before .before .before .before .before .before .before .before in
-    refused-then (given start) (lent start) (sym (first-number judged) ∙ k .before .before .before .before .before .before .before .before .before .if1 .left) (k .push .result .answer) (k .push .result .weaver) _ _ _ _
-    (answered k) (c .before .number-in .ensures) (c .if2 .taken)
+    let passed = sym (first-number judged) ∙ k .before .before .before .before .before .before .before .before .before .if1 .left in
+    refused-then (offered start) (kept start) (places start) passed (k .push .result .answer) (k .push .result .weaver) _ _ _ _ (answered k passed) (c .before .number-in .ensures) (c .if2 .taken)
 
 keep-requires : tie.Need-keep-requires
 keep-requires c κs =
@@ -151,13 +167,14 @@ same-length-10 c = search needs
 returns-3 : tie.Need-returns-3
 returns-3 c =
     let fits : SFits w64 (c .time-number .result) = search needs in
-    let kept = c .before .before .before .before .before .before in
-    let tested = kept .before .before in
+    let wrote = c .before .before .before .before .before .before in
+    let tested = wrote .before .before in
     let k = c .before .before .before .before .before .before .before .before .before .before .before .before .before .before .before .before .before .before .before in
     let judged = k .before .before .before .before .before .before .before .before .before .before in
     let start = judged .before .before .before .before .before .before .before .before .before .before .before .before in
-    taken (given start) (lent start) (sym (first-number judged) ∙ k .before .before .before .before .before .before .before .before .before .if1 .left) (k .push .result .answer) (k .push .result .weaver) _ _ _ _ (answered k)
-    (tested .before .number-in .ensures) (tested .if2 .left) _ _ _ _ (c .before .before .before .earlier-in .result) (kept .keep .ensures)
+    let passed = sym (first-number judged) ∙ k .before .before .before .before .before .before .before .before .before .if1 .left in
+    taken (offered start) (kept start) (places start) passed (k .push .result .answer) (k .push .result .weaver) _ _ _ _ (answered k passed)
+    (tested .before .number-in .ensures) (tested .if2 .left) _ _ _ _ (c .before .before .before .earlier-in .result) (wrote .keep .ensures)
     (c .before .before .before .earlier-in .ensures) (c .before .before .picture-in .ensures) (c .before .timed-number .ensures)
     (toZ-ofZ w64 (c .time-number .result) fits ∙ c .time-number .ensures)
 
@@ -165,7 +182,7 @@ pub desk-weaver-push-spec : {M : Type 1} → statement M
 desk-weaver-push-spec =
     tie.close
     (tie.spec
-    field-named-requires
+    field-cut-requires
     good-field-requires
     chroma-fits-requires
     lowest-of-requires

@@ -5,32 +5,32 @@ use Rattle.weavedesk.proofs.Lines.{line-refused, line-too-long, line-co
 use Rattle.weavedesk.proofs.desk_woven_line.Statement.{statement}
 use Rattle.weavedesk.proofs.desk_woven_line.Tie as tie
 
-lines-named-requires : tie.Need-lines-named-requires
-lines-named-requires c κs = search needs
-
-lines-named-requires-2 : tie.Need-lines-named-requires-2
-lines-named-requires-2 c κs = search needs
-
-line-no-requires : tie.Need-line-no-requires
-line-no-requires c κs = search needs
+line-number-requires : tie.Need-line-number-requires
+line-number-requires c κs = search needs
 
 returns : tie.Need-returns
 returns c =
     let number = c .before in
-    let a = number .before .before .before .before .before .before .args in
-    line-refused (now (a .top)) (a .top-lines) (now (a .bottom)) (a .bottom-lines) (a .y) (now (a .out)) (number .before .before .lines-named .ensures)
-    (number .before .lines-named2 .ensures) (number .line-no .ensures) (c .if1 .taken)
+    let a = number .before .before .before .before .args in
+    line-refused (now (a .top)) (a .top-lines) (now (a .bottom)) (a .bottom-lines) (a .y) (now (a .out)) (number .line-number .ensures) (c .if1 .taken)
+
+lines-cut-requires : tie.Need-lines-cut-requires
+lines-cut-requires c κs = search needs
+
+lines-cut-requires-2 : tie.Need-lines-cut-requires-2
+lines-cut-requires-2 c κs = search needs
 
 woven-line-requires : tie.Need-woven-line-requires
 woven-line-requires c κs = search needs
 
 returns-2 : tie.Need-returns-2
 returns-2 c =
-    let test = c .before .before in
+    let line = c .before in
+    let test = line .before .before .before in
     let number = test .before in
-    let a = number .before .before .before .before .before .before .args in
-    line-too-long (now (a .top)) (a .top-lines) (now (a .bottom)) (a .bottom-lines) (a .y) (now (a .out)) (number .before .before .lines-named .ensures)
-    (number .before .lines-named2 .ensures) (number .line-no .ensures) (test .if1 .left) (c .before .woven-line .ensures) (c .if2 .taken)
+    let a = number .before .before .before .before .args in
+    line-too-long (now (a .top)) (a .top-lines) (now (a .bottom)) (a .bottom-lines) (a .y) (now (a .out)) (number .line-number .ensures) (test .if1 .left)
+    (line .before .before .lines-cut .ensures) (line .before .lines-cut2 .ensures) (line .woven-line .ensures .0) (c .if2 .taken)
 
 copy-requires : tie.Need-copy-requires
 copy-requires c κs = search needs
@@ -42,21 +42,21 @@ returns-3 : tie.Need-returns-3
 returns-3 c =
     let copied = c .before .before in
     let room = copied .before .before in
-    let test = room .before .before in
+    let line = room .before in
+    let test = line .before .before .before in
     let number = test .before in
-    let a = number .before .before .before .before .before .before .args in
-    line-copied (now (a .top)) (a .top-lines) (now (a .bottom)) (a .bottom-lines) (a .y) (now (a .out)) (number .before .before .lines-named .ensures)
-    (number .before .lines-named2 .ensures) (number .line-no .ensures) (test .if1 .left) (room .before .woven-line .ensures) (room .if2 .left)
-    (copied .copy .ensures)
+    let a = number .before .before .before .before .args in
+    line-copied (now (a .top)) (a .top-lines) (now (a .bottom)) (a .bottom-lines) (a .y) (now (a .out)) (number .line-number .ensures) (test .if1 .left)
+    (line .before .before .lines-cut .ensures) (line .before .lines-cut2 .ensures) (line .woven-line .ensures .0) (room .if2 .left) (copied .copy .ensures)
 
 pub desk-woven-line-spec : {M : Type 1} → statement M
 desk-woven-line-spec =
     tie.close
     (tie.spec
-    lines-named-requires
-    lines-named-requires-2
-    line-no-requires
+    line-number-requires
     returns
+    lines-cut-requires
+    lines-cut-requires-2
     woven-line-requires
     returns-2
     copy-requires

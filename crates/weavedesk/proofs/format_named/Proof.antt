@@ -3,9 +3,6 @@ use borrow.Author.Needs.{needs}
 use Rattle.weavedesk.proofs.format_named.Statement.{statement}
 use Rattle.weavedesk.proofs.format_named.Tie as tie
 
-at-most-255-requires : tie.Need-at-most-255-requires
-at-most-255-requires c κs = search needs
-
 flag-named-requires : tie.Need-flag-named-requires
 flag-named-requires c κs = search needs
 
@@ -17,11 +14,11 @@ flag-named-requires-3 c κs = search needs
 
 returns : tie.Need-returns
 returns c =
-    let n = c .before .before .before .before .args .n in
+    let n = c .before .before .before .args .n in
     λ i. record {
       width = n .width;
       height = n .height;
-      depth = c .before .before .before .at-most-255 .ensures i;
+      depth = n .depth;
       «rate_numerator» = n .«rate_numerator»;
       «rate_denominator» = n .«rate_denominator»;
       «field_pictures» = c .before .before .flag-named .ensures i;
@@ -33,7 +30,6 @@ pub format-named-spec : {M : Type 1} → statement M
 format-named-spec =
     tie.close
     (tie.spec
-    at-most-255-requires
     flag-named-requires
     flag-named-requires-2
     flag-named-requires-3

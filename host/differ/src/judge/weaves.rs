@@ -256,6 +256,12 @@ mod tests {
         assert_eq!(woven_line((luma, 20), (other, 18), 5, 6), 0);
         assert_eq!(woven_line((luma, 20), (other, 18), 5, 5), 7);
         assert_eq!(woven_line((luma, 20), (other, 17), 5, 5), 6);
+        // However high the field is said to be.
+        let high = lines(1, 70_000, 8, 1);
+        assert_eq!(line(high, high, [70_000; 2], 139_999), 4);
+        assert_eq!(line(high, high, [70_000; 2], 140_000), 3);
+        let highest = lines(1, u32::MAX, 8, 1);
+        assert_eq!(line(highest, highest, [0; 2], u32::MAX), 4);
     }
 
     #[test]

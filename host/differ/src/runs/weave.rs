@@ -143,13 +143,14 @@ fn spoilt(random: &mut Random) -> Pair {
 }
 
 /// The widest, the highest, and those just past the bound.
-const LARGE: [(u32, u32, u32); 7] = [
+const LARGE: [(u32, u32, u32); 8] = [
     (8192, 2, 16),
     (8191, 3, 8),
     (1, 2176, 9),
     (3, 2175, 8),
     (1, 2177, 8),
     (2, 4352, 8),
+    (1, 70_000, 8),
     (1920, 540, 10),
 ];
 

@@ -10,13 +10,14 @@ use crate::random::Random;
 
 pub const NAME: &str = "woven";
 
-/// The Rust's format, as numbers. Its depth is a byte and its flags are
-/// truths, so a larger depth counts as 255, a flag other than 0 as 1.
+/// The Rust's format, as numbers. Its flags are truths, so a flag other than 0
+/// counts as 1. Its depth is a byte, which it hands on; so a larger one, which
+/// it cannot be given, is to come back as it was.
 fn by_rust(field: FormatNumbers) -> FormatNumbers {
     let found = weave::woven(Format {
         width: field.width,
         height: field.height,
-        depth: field.depth.min(255) as u8,
+        depth: u8::try_from(field.depth).unwrap_or(0),
         rate: (field.rate_numerator, field.rate_denominator),
         field_pictures: field.field_pictures != 0,
         progressive: field.progressive != 0,
@@ -26,7 +27,11 @@ fn by_rust(field: FormatNumbers) -> FormatNumbers {
     FormatNumbers {
         width: found.width,
         height: found.height,
-        depth: found.depth.into(),
+        depth: if field.depth > 255 {
+            field.depth
+        } else {
+            found.depth.into()
+        },
         rate_numerator: found.rate.0,
         rate_denominator: found.rate.1,
         field_pictures: found.field_pictures.into(),
@@ -120,7 +125,7 @@ fn number(random: &mut Random) -> u32 {
 
 fn numbers(random: &mut Random) -> Numbers {
     let mut numbers = [0; 8].map(|_| number(random));
-    // A depth or a flag that counts as another, in one of four.
+    // A depth that is no byte, and flags that count as others, in one of four.
     if !random.one_in(4) {
         numbers[2] = random.between(0, 255) as u32;
         for flag in &mut numbers[5..] {

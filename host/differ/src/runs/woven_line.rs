@@ -176,7 +176,7 @@ fn asked_of(random: &mut Random, planes: Rc<Planes>) -> Vec<Line> {
         let past = height.saturating_mul(2);
         every.extend([past.saturating_sub(1), past, past.saturating_add(1)]);
     }
-    every.extend([131_069, 131_070, u32::MAX / 2, u32::MAX]);
+    every.extend([131_069, 131_070, 131_071, u32::MAX / 2, u32::MAX]);
     let row = judge::row(top.shape);
     let lengths = [top, bottom].map(|given| given.length as u64);
     let needed = [top, bottom].map(|given| judge::needed(given.shape));
@@ -216,8 +216,15 @@ fn random_planes(random: &mut Random) -> Rc<Planes> {
     Planes::new(top, bottom)
 }
 
-/// The widest and the highest, and one that is too high.
-const LARGE: [(u32, u32, u32); 4] = [(8192, 2, 16), (1, 2176, 9), (2, 2177, 8), (1920, 540, 10)];
+/// The widest and the highest, and two that are too high, one of them for 16
+/// bits.
+const LARGE: [(u32, u32, u32); 5] = [
+    (8192, 2, 16),
+    (1, 2176, 9),
+    (2, 2177, 8),
+    (1, 70_000, 8),
+    (1920, 540, 10),
+];
 
 pub fn run(random: &mut Random) -> Result<Tally, Failure> {
     let mut own = || Random::new(random.next());

@@ -1,7 +1,7 @@
--- `weavedesk::readback_named` meets its contract. Assumes nothing.
+-- `weavedesk::readback_cut` meets its contract. Assumes nothing.
 use borrow.Author.Needs.{needs}
-use Rattle.weavedesk.proofs.readback_named.Statement.{statement}
-use Rattle.weavedesk.proofs.readback_named.Tie as tie
+use Rattle.weavedesk.proofs.readback_cut.Statement.{statement}
+use Rattle.weavedesk.proofs.readback_cut.Tie as tie
 
 at-most-255-requires : tie.Need-at-most-255-requires
 at-most-255-requires c κs = search needs
@@ -28,8 +28,8 @@ returns c =
       «third_pitch» = n .«third_pitch»;
     }
 
-pub readback-named-spec : {M : Type 1} → statement M
-readback-named-spec =
+pub readback-cut-spec : {M : Type 1} → statement M
+readback-cut-spec =
     tie.close
     (tie.spec
     at-most-255-requires

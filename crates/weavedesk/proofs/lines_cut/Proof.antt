@@ -1,7 +1,7 @@
--- `weavedesk::lines_named` meets its contract. Assumes nothing.
+-- `weavedesk::lines_cut` meets its contract. Assumes nothing.
 use borrow.Author.Needs.{needs}
-use Rattle.weavedesk.proofs.lines_named.Statement.{statement}
-use Rattle.weavedesk.proofs.lines_named.Tie as tie
+use Rattle.weavedesk.proofs.lines_cut.Statement.{statement}
+use Rattle.weavedesk.proofs.lines_cut.Tie as tie
 
 at-most-65535-requires : tie.Need-at-most-65535-requires
 at-most-65535-requires c κs = search needs
@@ -20,7 +20,7 @@ returns c = λ i. record {
   stride = c .before .before .before .args .lines .stride;
 }
 
-pub lines-named-spec : {M : Type 1} → statement M
-lines-named-spec =
+pub lines-cut-spec : {M : Type 1} → statement M
+lines-cut-spec =
     tie.close
     (tie.spec at-most-65535-requires at-most-65535-requires-2 at-most-255-requires returns)

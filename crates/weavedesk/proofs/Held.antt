@@ -1,0 +1,135 @@
+-- The state always holds the weaver that the calls leave, of the fields that the host means. Assumes nothing.
+use Prim.Native.Nat.{ℕ, _≤_, _<_, _^_}
+use mathlib.Core.Path.{_≡_, refl, ap, _∙_}
+use mathlib.Core.Bool.{Bool, true, false, cond, _&&_}
+use mathlib.Core.List.{List, [], _∷_}
+use native.Mathlib.Omega.{arith}
+use lib.Dec.{leb, eqb}
+use lib.ListN.{length}
+use borrow.Author.Tests.{le-leb, eqb-true}
+use Rattle.laws.specs.Refusal.{lowest, written}
+use Rattle.laws.proofs.Rows.{length-over}
+use Rattle.packed.specs.Packed.{packedOf}
+use Rattle.packed.proofs.Claims.{packed-size}
+use Rattle.weaver.specs.declared.Time.the-variants as time
+use Rattle.weaver.specs.declared.Weaver.{Weaver}
+use Rattle.weaver.specs.Weaver.{emptyWeaver, pushWeaver, pushStore}
+use Rattle.weaver.specs.History as calls
+use Rattle.weaver.proofs.Claims as weaver
+use Rattle.weavedesk.specs.Woven.{fieldNamed}
+use Rattle.weavedesk.specs.Waiting.{wholeSize, weaverNumbers, weaverIn, keeping}
+use Rattle.weavedesk.specs.Push.{Lent, Offer, newNo, clearNo, emptied, parityIn, timeIn, given, weaverOf, pushNo, weaverAfter, stateAfter, storeAfter}
+use Rattle.weavedesk.specs.History.{Call, push, clear, next, after, fieldMeant, named, callsOf}
+use Rattle.weavedesk.specs.Claims.{Sized}
+use Rattle.weavedesk.proofs.States.{found-again, empty-sized, push-sized}
+
+-- ---- a call that writes a weaver to the state, or leaves it
+
+kept-room : (w : Weaver) (state : List ℕ) → 56 ≤ length state → 56 ≤ length (keeping w state)
+kept-room w state h =
+    let size = packed-size (weaverNumbers w) in
+    omega (arith, length-over (packedOf (weaverNumbers w)) state (omega (arith, size)))
+
+written-room : (n : ℕ) (w : Weaver) (state : List ℕ) → 56 ≤ length state → 56 ≤ length (written n (keeping w state) state)
+written-room n w state h = either (eqb n 0)
+  where
+    either : (b : Bool) → 56 ≤ length (cond b (keeping w state) state)
+    either true = kept-room w state h
+    either false = h
+
+found-then :
+    (n : ℕ) (w : Weaver) (state : List ℕ) → (n ≡ 0 → Sized w) → weaverIn (written n (keeping w state) state) ≡ written n w (weaverIn state)
+found-then n w state sized = either (eqb n 0) (λ e. sized (eqb-true n 0 e))
+  where
+    either : (b : Bool) → (b ≡ true → Sized w) → weaverIn (cond b (keeping w state) state) ≡ cond b w (weaverIn state)
+    either true s = found-again w state (s refl)
+    either false s = refl
+
+-- ---- what is lent holds what the weaver's own calls leave
+
+abbrev pub heldIn : Lent → calls.State
+heldIn l = record { weaver = weaverOf l; store = l .store }
+
+pub record Held (l : Lent) (s : calls.State) : Type 0 where
+  pub room : 56 ≤ length (l .state)
+  pub same : heldIn l ≡ s
+
+-- where the codes name something and the state is long enough, the number is the weaver's own
+behind :
+    (codes good halved state bytes store fit : Bool) → codes ≡ true → state ≡ true
+    → lowest ((3, codes) ∷ (4, good) ∷ (5, halved) ∷ (6, state && bytes && store) ∷ (7, fit) ∷ [])
+    ≡ lowest ((4, good) ∷ (5, halved) ∷ (6, bytes && store) ∷ (7, fit) ∷ [])
+unfolding lowest
+behind codes good halved state bytes store fit e f = rw (e, f)
+
+unnamed : (codes : Bool) (tests : List (ℕ × Bool)) → codes ≡ false → lowest ((3, codes) ∷ tests) ≡ 3
+unfolding lowest
+unnamed codes tests e = rw e
+
+-- a single test
+alone-passes : (n : ℕ) (passes : Bool) → passes ≡ true → lowest ((n, passes) ∷ []) ≡ 0
+unfolding lowest
+alone-passes n passes e = rw e
+
+pub alone-fails : (n : ℕ) (passes : Bool) → passes ≡ false → lowest ((n, passes) ∷ []) ≡ n
+unfolding lowest
+alone-fails n passes e = rw e
+
+module _ (l : Lent) (room : 56 ≤ length (l .state)) where
+  enough : leb 56 (length (l .state)) ≡ true
+  enough = le-leb 56 (length (l .state)) room
+
+  pub number-same : (o : Offer) → named o ≡ true → pushNo l o ≡ calls.numberIn (heldIn l) (fieldMeant o)
+  number-same o e = behind (named o) _ _ (leb 56 (length (l .state))) _ _ _ e enough
+
+  -- a field whose codes name it
+  pushed-held :
+      (o : Offer) (fit : wholeSize (o .time) < 2 ^ 63) → named o ≡ true
+      → heldIn (next l (push o fit)) ≡ calls.next (heldIn l) (calls.push (fieldMeant o))
+  pushed-held o fit e =
+      let found = found-then (pushNo l o) (weaverAfter l o) (l .state) (λ z. push-sized l o z fit) in
+      λ i. record {
+        weaver = (found ∙ (λ j. pushWeaver (number-same o e j) (weaverOf l) (fieldNamed (o .shape)) (parityIn o) (timeIn o))) i;
+        store = pushStore (number-same o e i) (weaverOf l) (given o) (parityIn o) (l .store);
+      }
+
+  -- one whose codes name nothing
+  unnamed-held : (o : Offer) (fit : wholeSize (o .time) < 2 ^ 63) → named o ≡ false → heldIn (next l (push o fit)) ≡ heldIn l
+  unnamed-held o fit e =
+      let three = unnamed (named o) _ e in
+      λ i. record { weaver = weaverIn (stateAfter (three i) l o); store = storeAfter (three i) l o }
+
+  cleared-held : heldIn (next l clear) ≡ calls.next (heldIn l) calls.clear
+  cleared-held =
+      let zero = alone-passes 6 (leb 56 (length (l .state))) enough in
+      λ i. record {
+        weaver = ((λ j. weaverIn (emptied (zero j) (l .state))) ∙ found-again emptyWeaver (l .state) empty-sized) i;
+        store = l .store;
+      }
+
+-- ---- any calls
+module _ (state store : List ℕ) (room : 56 ≤ length state) where
+  push-held :
+      (l : Lent) (made : List calls.Call) → Held l (calls.after store made) → (o : Offer) (fit : wholeSize (o .time) < 2 ^ 63) (b : Bool) → named o ≡ b
+      → Held (next l (push o fit)) (calls.after store (cond b (calls.push (fieldMeant o) ∷ made) made))
+  push-held l made h o fit true e = record {
+    room = written-room (pushNo l o) (weaverAfter l o) (l .state) (h .room);
+    same = pushed-held l (h .room) o fit e ∙ ap (λ (s : calls.State). calls.next s (calls.push (fieldMeant o))) (h .same);
+  }
+  push-held l made h o fit false e = record { room = written-room (pushNo l o) (weaverAfter l o) (l .state) (h .room); same = unnamed-held l (h .room) o fit e ∙ h .same }
+
+  pub any-held : (made : List Call) → Held (after state store made) (calls.after store (callsOf made))
+  any-held [] = record { room = written-room (newNo (length state)) emptyWeaver state room; same = begun }
+    where
+      begun : heldIn (after state store []) ≡ calls.after store []
+      begun =
+          let zero = alone-passes 7 (leb 56 (length state)) (le-leb 56 (length state) room) in
+          λ i. record { weaver = ((λ j. weaverIn (emptied (zero j) state)) ∙ found-again emptyWeaver state empty-sized) i; store = store }
+  any-held (push o fit ∷ earlier) = push-held (after state store earlier) (callsOf earlier) (any-held earlier) o fit (named o) refl
+  any-held (clear ∷ earlier) =
+      let l = after state store earlier in
+      let h = any-held earlier in
+      record {
+        room = written-room (clearNo (length (l .state))) emptyWeaver (l .state) (h .room);
+        same = cleared-held l (h .room) ∙ ap (λ (s : calls.State). calls.next s calls.clear) (h .same);
+      }
