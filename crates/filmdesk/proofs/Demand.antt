@@ -1,15 +1,19 @@
 -- The claims over any calls: the state always holds the detector that the frames given so far leave, of which crate `telecine` has the same claims.
 -- Assumes nothing.
-use Prim.Native.Nat.{ℕ, _≤_}
+use Prim.Native.Nat.{ℕ, _≤_, _<_}
 use mathlib.Core.Path.{_≡_, refl, sym, ap, _∙_}
 use mathlib.Core.Logic.{_↔_, ⊎-elim}
-use mathlib.Core.Bool.{Bool, true, false, cond}
+use mathlib.Core.Bool.{Bool, true, false, cond, _&&_}
 use mathlib.Core.List.{List, [], _∷_}
 use native.Mathlib.Omega.{arith}
+use lib.Dec.{leb}
 use lib.ListN.{length}
-use borrow.Author.Tests.{le-leb, ne-eqb}
-use Rattle.laws.specs.Refusal.{lowest}
+use borrow.Author.Tests.{le-leb, lt-leb, ne-eqb}
+use Rattle.laws.specs.Refusal.{lowest, written}
+use Rattle.field.specs.declared.Cadence.{Cadence}
+use Rattle.field.specs.declared.Cadence.the-variants.{None, Whole, Drop, Spanning}
 use Rattle.field.specs.Field.{cadenceNumber}
+use Rattle.pulldown.specs.Runs.{Frame, Meets}
 use Rattle.pulldown.proofs.Bools.{known, clash}
 use Rattle.telecine.specs.Detector.{freshDetector, resetOf}
 use Rattle.telecine.specs.History as calls
@@ -17,8 +21,8 @@ use Rattle.telecine.proofs.Held as telecine-held
 use Rattle.telecine.proofs.Claims as telecine
 use Rattle.filmdesk.specs.Kept.{numberIf, detectorIn}
 use Rattle.filmdesk.specs.Film.{stateNo, predictStateNo}
-use Rattle.filmdesk.specs.History.{Given, picture, counts, Call, new, push, reset, Lent, numberIn, numberOf, next, after, named, frameOf, callsOf}
-use Rattle.filmdesk.specs.Claims.{RefusedLeaves, RefusalKnown, ThirdDemand, LockedOverCalls, PredictOverCalls}
+use Rattle.filmdesk.specs.History.{Given, picture, counts, Call, new, push, reset, Lent, numberIn, byteIn, numberOf, next, after, named, frameOf, byteOf, callsOf}
+use Rattle.filmdesk.specs.Claims.{RefusedLeaves, TooShort, BytesStay, RefusalKnown, ThirdDemand, TellsLock, LockedOverCalls, PredictOverCalls}
 use Rattle.filmdesk.proofs.Claims.{found-again, fresh-sized, reset-sized}
 use Rattle.filmdesk.proofs.Holds.{Holds, room-after, written-by}
 use Rattle.filmdesk.proofs.Frames.{number-is, number-named, number-unnamed, push-named, push-unnamed, byte-is}
@@ -72,6 +76,43 @@ refused-leaves l (push (picture parity plane n)) h = rw (ne-eqb (numberIn l (pic
 refused-leaves l (push (counts parity present busy total other-busy other-total)) h =
     rw (ne-eqb (numberIn l (counts parity present busy total other-busy other-total)) 0 h)
 
+bytes-stay-by : (number value before : ℕ) → (number ≡ 0 → ⊥) → written number value before ≡ before
+bytes-stay-by number value before h = rw (ne-eqb number 0 h)
+
+pub bytes-stay : BytesStay
+bytes-stay l before = record {
+  pushed = pushed;
+  locked = λ h. bytes-stay-by _ _ before h;
+  foretold = λ ahead h. bytes-stay-by _ _ before h;
+}
+  where
+    pushed : (u : Given) → (numberIn l u ≡ 0 → ⊥) → byteIn l u before ≡ before
+    pushed (picture parity plane n) h = bytes-stay-by _ _ before h
+    pushed (counts parity present busy total other-busy other-total) h = bytes-stay-by _ _ before h
+
+-- a list in which some test fails, under a number that is not 0
+short-state : (named good long whole kept : Bool) (tests : List (ℕ × Bool)) → long ≡ false
+    → (lowest ((7, long) ∷ []) ≡ 0 → ⊥) × (lowest ((6, long) ∷ []) ≡ 0 → ⊥)
+    × (lowest ((3, named) ∷ (6, long) ∷ tests) ≡ 0 → ⊥)
+    × (lowest ((3, named) ∷ (4, good) ∷ (6, long && whole && kept) ∷ tests) ≡ 0 → ⊥)
+unfolding lowest
+short-state true true long whole kept tests e = rw e (λ z. omega arith, λ z. omega arith, λ z. omega arith, λ z. omega arith)
+short-state true false long whole kept tests e = rw e (λ z. omega arith, λ z. omega arith, λ z. omega arith, λ z. omega arith)
+short-state false true long whole kept tests e = rw e (λ z. omega arith, λ z. omega arith, λ z. omega arith, λ z. omega arith)
+short-state false false long whole kept tests e = rw e (λ z. omega arith, λ z. omega arith, λ z. omega arith, λ z. omega arith)
+
+pub too-short : TooShort
+too-short l call h = by-call call
+  where
+    long : leb 96 (length (l .state)) ≡ false
+    long = lt-leb 96 (length (l .state)) h
+
+    by-call : (call : Call) → numberOf l call ≡ 0 → ⊥
+    by-call new = short-state true true _ true true [] long .0
+    by-call reset = short-state true true _ true true [] long .1
+    by-call (push (counts parity present busy total other-busy other-total)) = short-state _ true _ true true _ long .2
+    by-call (push (picture parity plane n)) = short-state _ _ _ _ _ _ long .3
+
 first-test : (b : Bool) (tests : List (ℕ × Bool)) → lowest ((3, b) ∷ tests) ≡ cond b (lowest tests) 3
 unfolding lowest
 first-test b tests = refl
@@ -83,6 +124,13 @@ refusal-known l u earlier room =
     ∙ ap (λ (n : ℕ). cond (named u) n 3) (telecine.refusal-known (f .found) (frameOf u) (callsOf earlier) ∙ rw (f .long) refl)
     ∙ sym (first-test (named u) _)
 
+-- the byte of the contracts is the host's
+same-byte : (c : Cadence) → cadenceNumber c ≡ byteOf c
+same-byte None = refl
+same-byte Whole = refl
+same-byte Drop = refl
+same-byte Spanning = refl
+
 unnamed-refused : (l : Lent) (s : calls.State) (h : Holds l s) (u : Given) → named u ≡ false → numberIn l u ≡ 0 → ⊥
 unnamed-refused l s h u e done = omega (arith, sym (number-unnamed l s h u e) ∙ done)
 
@@ -92,7 +140,7 @@ third-demand l u earlier room done =
     ⊎-elim
     (λ e. record {
       cadence = calls.cadenceIn (calls.after (f .found) (callsOf earlier)) (frameOf u);
-      byte = λ before. byte-is _ _ (f .holds) u before e done;
+      byte = λ before. byte-is _ _ (f .holds) u before e done ∙ same-byte _;
       third = rw (f .long) at (telecine.third-demand (f .found) (frameOf u) (callsOf earlier) (sym (number-named _ _ (f .holds) u e) ∙ done));
     })
     (λ e. absurd (unnamed-refused _ _ (f .holds) u e done))
@@ -103,6 +151,19 @@ number-one : (b : Bool) → (numberIf b ≡ 1) ↔ (b ≡ true)
 number-one true = (λ e. refl, λ e. refl)
 number-one false = (λ e. absurd (omega arith), λ e. absurd (clash e refl))
 
+number-zero : (b : Bool) → (numberIf b ≡ 0) ↔ (b ≡ false)
+number-zero true = (λ e. absurd (omega arith), λ e. absurd (clash refl e))
+number-zero false = (λ e. refl, λ e. refl)
+
+tells-lock : (b : Bool) (run : List Frame) → (b ≡ true) ↔ ((p : ℕ) × (p < 5) × Meets p run) → TellsLock (numberIf b) run
+tells-lock b run says = record {
+  one = (λ e. says .0 (number-one b .0 e), λ m. number-one b .1 (says .1 m));
+  zero = (λ e p h m. clash (says .1 (p, h, m)) (number-zero b .0 e), λ none. number-zero b .1 (unmet none));
+}
+  where
+    unmet : ((p : ℕ) → p < 5 → Meets p run → ⊥) → b ≡ false
+    unmet none = ⊎-elim (λ e. let m = says .0 e in absurd (none (m .0) (m .1) (m .2))) (λ e. e) (known b)
+
 state-read : (state : List ℕ) → 96 ≤ length state → stateNo (length state) ≡ 0
 unfolding lowest
 state-read state room = rw (le-leb 96 (length state) room)
@@ -110,9 +171,8 @@ state-read state room = rw (le-leb 96 (length state) room)
 pub locked-over-calls : LockedOverCalls
 locked-over-calls l made before room =
     let f = follows l made room in
-    let says = telecine.locked-says (f .found) (callsOf made) in
     rw (state-read (after l made .state) (f .holds .room), f .holds .detector, sym (f .long))
-    (λ e. says .0 (number-one _ .0 e), λ m. number-one _ .1 (says .1 m))
+    (tells-lock _ _ (telecine.locked-says (f .found) (callsOf made)))
 
 predict-read : (state : List ℕ) (ahead : ℕ) → 96 ≤ length state → ahead ≤ 1000000 → predictStateNo (length state) ahead ≡ 0
 unfolding lowest
@@ -122,4 +182,4 @@ pub predict-over-calls : PredictOverCalls
 predict-over-calls l made ahead before room near =
     let f = follows l made room in
     rw (predict-read (after l made .state) ahead (f .holds .room) near, f .holds .detector, sym (f .long))
-    (ap cadenceNumber (telecine.predict-says (f .found) (callsOf made) ahead))
+    (ap cadenceNumber (telecine.predict-says (f .found) (callsOf made) ahead) ∙ same-byte _)

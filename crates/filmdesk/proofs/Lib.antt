@@ -8,3 +8,4 @@ pub mod Claims
 pub mod Holds
 pub mod Frames
 pub mod Demand
+pub mod Door

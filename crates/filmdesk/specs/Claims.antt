@@ -7,9 +7,8 @@ use lib.ListN.{length, getD}
 use Rattle.laws.specs.Refusal.{lowest, Says}
 use Rattle.field.specs.declared.Cadence.{Cadence}
 use Rattle.field.specs.declared.Parity.{Parity}
-use Rattle.field.specs.Field.{cadenceNumber}
 use Rattle.plane.specs.declared.Shape.{Shape}
-use Rattle.pulldown.specs.Runs.{Meets, phaseOf, lockFrame, foretold}
+use Rattle.pulldown.specs.Runs.{Frame, Meets, phaseOf, lockFrame, foretold}
 use Rattle.pulldown.specs.Claims.{Third}
 use Rattle.telecine.specs.declared.Detector.{Detector}
 use Rattle.telecine.specs.declared.Measured.{Measured}
@@ -17,10 +16,10 @@ use Rattle.telecine.specs.Detector.{freshDetector, resetOf, measuredDetector, p
 use Rattle.telecine.specs.History.{framesOf, runOf, refusalTests}
 use Rattle.telecine.specs.History as calls
 use Rattle.filmdesk.specs.declared.GridNumbers.{GridNumbers}
-use Rattle.filmdesk.specs.Kept.{stateBytes, detectorIn, keeping}
+use Rattle.filmdesk.specs.Kept.{detectorIn, keeping}
 use Rattle.filmdesk.specs.Film.{busyTests, newTests, stateTests, stateNo, predictStateTests, predictStateNo, measuredStateTests, pushStateTests}
 use Rattle.filmdesk.specs.Left.{lockedByte, foretoldByte}
-use Rattle.filmdesk.specs.History.{Given, Call, Lent, numberIn, byteIn, numberOf, next, after, named, frameOf, taken}
+use Rattle.filmdesk.specs.History.{Given, Call, Lent, numberIn, byteIn, numberOf, next, after, named, frameOf, byteOf, taken}
 
 -- a detector whose numbers have the sizes of their places, as every detector of the code has
 pub record Sized (d : Detector) : Type 0 where
@@ -80,42 +79,60 @@ PushSays = (n : GridNumbers) (parity bytes room state : ℕ) (d : Detector) → 
 -- ---- over any calls
 
 -- A refused call leaves the state and the store as they were, whatever they hold and however long they are: also a store that is not the
--- history's own, or a state too short for a detector. So no refused call is outside what follows.
+-- history's own, or a state too short for a detector, with which every call is refused. So no refused call is outside what follows.
 abbrev pub RefusedLeaves : Type 0
 RefusedLeaves = (l : Lent) (call : Call) → (numberOf l call ≡ 0 → ⊥) → next l call ≡ l
+
+abbrev pub TooShort : Type 0
+TooShort = (l : Lent) (call : Call) → length (l .state) < 96 → numberOf l call ≡ 0 → ⊥
+
+-- Nor does it touch the byte that was to get an answer.
+pub record ByteStays (l : Lent) (before : ℕ) : Type 0 where
+  pub pushed : (u : Given) → (numberIn l u ≡ 0 → ⊥) → byteIn l u before ≡ before
+  pub locked : (stateNo (length (l .state)) ≡ 0 → ⊥) → lockedByte (stateNo (length (l .state))) (l .state) before ≡ before
+  pub foretold :
+      (ahead : ℕ) → let number = predictStateNo (length (l .state)) ahead in
+      (number ≡ 0 → ⊥) → foretoldByte number (l .state) ahead before ≡ before
+
+abbrev pub BytesStay : Type 0
+BytesStay = (l : Lent) (before : ℕ) → ByteStays l before
 
 -- What a frame gets is known from the host's numbers, the frames before it that were taken, and the length of the store.
 abbrev pub RefusalKnown : Type 0
 RefusalKnown =
-    (l : Lent) (u : Given) (earlier : List Call) → stateBytes ≤ length (l .state)
+    (l : Lent) (u : Given) (earlier : List Call) → 96 ≤ length (l .state)
     → numberIn (after l earlier) u ≡ lowest ((3, named u) ∷ refusalTests (length (l .store)) (frameOf u) (taken (length (l .store)) earlier))
 
 -- Demand 3 of a frame that the host gives after some calls: the byte that it gets stands for a cadence, whatever was in its place, and that is
 -- what the demand says of the frame and its run.
 pub record Demanded (l : Lent) (u : Given) (known : List calls.Call) : Type 0 where
   pub cadence : Cadence
-  pub byte : (before : ℕ) → byteIn l u before ≡ cadenceNumber cadence
+  pub byte : (before : ℕ) → byteIn l u before ≡ byteOf cadence
   pub third : Third (framesOf known) (runOf (calls.push (frameOf u) ∷ known)) cadence
 
 -- Take any calls of `new`, `push`, `push_measured` and `reset` after a `new`, refused ones among them, the state and the store lent back as they
 -- were left. A frame that is not refused gets what the demand says of the frames that the host gave.
 abbrev pub ThirdDemand : Type 0
 ThirdDemand =
-    (l : Lent) (u : Given) (earlier : List Call) → stateBytes ≤ length (l .state) → numberIn (after l earlier) u ≡ 0
+    (l : Lent) (u : Given) (earlier : List Call) → 96 ≤ length (l .state) → numberIn (after l earlier) u ≡ 0
     → Demanded (after l earlier) u (taken (length (l .store)) earlier)
 
--- `locked` gives 1 exactly when the newest frame met demand 3 with some phase,
+-- `locked` gives 1 exactly when the newest frame met demand 3 with some phase, and 0 exactly when it met it with none.
+pub record TellsLock (byte : ℕ) (run : List Frame) : Type 0 where
+  pub one : (byte ≡ 1) ↔ ((p : ℕ) × (p < 5) × Meets p run)
+  pub zero : (byte ≡ 0) ↔ ((p : ℕ) → p < 5 → Meets p run → ⊥)
+
 abbrev pub LockedOverCalls : Type 0
 LockedOverCalls =
-    (l : Lent) (made : List Call) (before : ℕ) → stateBytes ≤ length (l .state)
+    (l : Lent) (made : List Call) (before : ℕ) → 96 ≤ length (l .state)
     → let state = after l made .state in
-    (lockedByte (stateNo (length state)) state before ≡ 1) ↔ ((p : ℕ) × (p < 5) × Meets p (runOf (taken (length (l .store)) made)))
+    TellsLock (lockedByte (stateNo (length state)) state before) (runOf (taken (length (l .store)) made))
 
--- and `predict` what is foretold by the phase and the lock frame of its run: at = frames taken + ahead.
+-- `predict` gives what is foretold by the phase and the lock frame of its run: at = frames taken + ahead.
 abbrev pub PredictOverCalls : Type 0
 PredictOverCalls =
-    (l : Lent) (made : List Call) (ahead before : ℕ) → stateBytes ≤ length (l .state) → ahead ≤ 1000000
+    (l : Lent) (made : List Call) (ahead before : ℕ) → 96 ≤ length (l .state) → ahead ≤ 1000000
     → let state = after l made .state in
     let known = taken (length (l .store)) made in
     foretoldByte (predictStateNo (length state) ahead) state ahead before
-    ≡ cadenceNumber (foretold (phaseOf (runOf known)) (lockFrame (runOf known)) (framesOf known + ahead))
+    ≡ byteOf (foretold (phaseOf (runOf known)) (lockFrame (runOf known)) (framesOf known + ahead))

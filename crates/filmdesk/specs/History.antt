@@ -2,13 +2,16 @@
 -- the calls leave, by the definitions that their contracts cite; then, by the host's own numbers, the frames that it gave. Lists of calls are
 -- newest first. Assumes nothing.
 use Prim.Native.Nat.{ℕ}
+use mathlib.Core.Path.{_≡_}
 use mathlib.Core.Bool.{Bool, cond, _&&_}
 use mathlib.Core.List.{List, [], _∷_}
 use lib.Dec.{leb, eqb}
 use lib.ListN.{length}
+use Rattle.field.specs.declared.Cadence.{Cadence}
+use Rattle.field.specs.declared.Cadence.the-variants.{None, Whole, Drop, Spanning}
 use Rattle.field.specs.declared.Parity.{Parity}
 use Rattle.field.specs.declared.Parity.the-variants.{Top, Bottom}
-use Rattle.plane.specs.Plane.{unshifted}
+use Rattle.plane.specs.declared.Layout.the-variants.{Planar}
 use Rattle.telecine.specs.declared.Measured.the-variants as measured
 use Rattle.telecine.specs.History as calls
 use Rattle.filmdesk.specs.declared.GridNumbers.{GridNumbers}
@@ -70,6 +73,13 @@ abbrev pub after : Lent → List Call → Lent
 after l [] = next l new
 after l (call ∷ earlier) = next (after l earlier) call
 
+-- A call that was made: the number that it gave, and what it left. The contract of each export comes to this, by the parameters of its signature
+-- (proofs/Door.antt).
+pub record Made (l : Lent) (call : Call) (given : ℕ) (state store : List ℕ) : Type 0 where
+  pub number : given ≡ numberOf l call
+  pub state-left : state ≡ next l call .state
+  pub store-left : store ≡ next l call .store
+
 -- ---- by the host's numbers
 
 -- the byte of a parity is 0 top or 1 bottom, that of `present` 0 or 1; others name nothing
@@ -80,12 +90,20 @@ abbrev pub named : Given → Bool
 named (picture parity plane n) = leb parity 1
 named (counts parity present busy total other-busy other-total) = leb parity 1 && leb present 1
 
--- the frame that was given
+-- the frame that was given; a picture's words are read as they stand
 abbrev pub frameOf : Given → calls.Push
-frameOf (picture parity plane n) = calls.picture plane (unshifted (n .width) (n .height) (n .depth) (n .stride)) (parityGiven parity)
+frameOf (picture parity plane n) =
+    calls.picture plane (record { width = n .width; height = n .height; depth = n .depth; stride = n .stride; layout = Planar }) (parityGiven parity)
 frameOf (counts parity present busy total other-busy other-total) =
     calls.measured (parityGiven parity)
     (cond (eqb present 0) measured.Absent (measured.Counts (record { busy = busy; total = total }) (record { busy = other-busy; total = other-total })))
+
+-- the byte that stands for a cadence
+abbrev pub byteOf : Cadence → ℕ
+byteOf None = 0
+byteOf Whole = 1
+byteOf Drop = 2
+byteOf Spanning = 3
 
 -- the frames and resets since the last `new`; a frame that nothing names is none
 abbrev pub callsOf : List Call → List calls.Call
