@@ -142,8 +142,12 @@ fn mixed(all: &[Listed], frames: Range<usize>) -> usize {
 }
 
 /// How many pictures of the reel are in none of those that are woven or passed.
+/// That of its last field is not counted: the frame that is to show it may be missing.
 fn left_out(all: &[Listed]) -> usize {
-    let there: BTreeSet<Picture> = all.iter().flat_map(|frame| frame.shows).collect();
+    let mut there: BTreeSet<Picture> = all.iter().flat_map(|frame| frame.shows).collect();
+    if let Some(last) = all.last() {
+        there.remove(&last.shows[1]);
+    }
     let shown: BTreeSet<Picture> = (0..all.len())
         .filter_map(|at| woven(all, at))
         .flatten()
