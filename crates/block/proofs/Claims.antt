@@ -8,14 +8,14 @@ use lib.ListN.{length, drop, List·getD-append}
 use borrow.Author.Tests.{le-ltb}
 use Rattle.laws.specs.Refusal.{rising}
 use Rattle.laws.specs.Rows.{listed, over}
-use Rattle.laws.specs.Sums.{sumOver, apart}
+use Rattle.laws.specs.Sums.{apart}
 use Rattle.laws.proofs.Claims.{lowest-says}
 use Rattle.laws.proofs.Sums.{same-terms, sum-of-zeros}
 use Rattle.laws.proofs.Lists.{length-listed, listed-at, length-laid, laid-at}
 use Rattle.block.specs.declared.Counted.the-variants.{Value, Refused}
 use Rattle.block.specs.Block.{keptOf, keptFrame, storedOf, fieldOf, rowsOf, oneIf, differs, columnsIn, rowsIn, differing, busy, blocksAcross, bandsDown, busyOf, busyField}
 use Rattle.block.specs.Answer.{countTests, keepTests}
-use Rattle.block.specs.Claims.{CountSays, KeepSays, OneCounted, KeptReadsBack, SamplesSettle, NearIsQuiet, SameFrameIsQuiet, KeptFrameIsQuiet, CardBlocks}
+use Rattle.block.specs.Claims.{CountSays, KeepSays, OneCounted, KeptReadsBack, SamplesSettle, NearIsQuiet, SameFrameIsQuiet, KeptFrameIsQuiet}
 use Rattle.block.proofs.Rows.{frame-within}
 
 pub count-says : CountSays
@@ -91,7 +91,3 @@ kept-frame-is-quiet bytes s store parity h =
     (λ x r l m. refl)
     (λ x r l m. kept-reads-back bytes s store x (2 * r + parity) l (omega arith))
     ∙ same-frame-is-quiet new (s .width) (rowsOf (s .height) parity)
-
-pub card-blocks : CardBlocks
-unfolding busy differing sumOver
-card-blocks = (refl, refl)

@@ -1,15 +1,13 @@
 -- What holds of the definitions here. proofs/Claims.antt proves each under its name in small letters. Assumes nothing.
-use Prim.Native.Nat.{ℕ, _+_, _*_, _≤_, _<_}
+use Prim.Native.Nat.{ℕ, _≤_, _<_}
 use mathlib.Core.Path.{_≡_}
-use mathlib.Core.Bool.{true, false, cond}
 use mathlib.Core.List.{List}
-use lib.Dec.{ltb}
 use Rattle.laws.specs.Refusal.{Says}
 use Rattle.laws.specs.Rows.{over}
 use Rattle.laws.specs.Sums.{apart}
 use Rattle.plane.specs.declared.Shape.{Shape}
 use Rattle.block.specs.declared.Counted.{Counted}
-use Rattle.block.specs.Block.{keptOf, keptFrame, storedOf, busy, busyOf, busyField}
+use Rattle.block.specs.Block.{keptOf, keptFrame, storedOf, busyOf, busyField}
 use Rattle.block.specs.Answer.{countedNo, countedValues, countTests, keepTests}
 
 -- `count` gives 4 exactly when the shape is outside the bounds, 6 exactly when only the plane or the store is too short, 0 exactly when neither
@@ -52,14 +50,3 @@ SameFrameIsQuiet = (frame : ℕ → ℕ → ℕ) (width rows : ℕ) → busyOf f
 abbrev pub KeptFrameIsQuiet : Type 0
 KeptFrameIsQuiet =
     (bytes : List ℕ) (s : Shape) (store : List ℕ) (parity : ℕ) → parity ≤ 1 → busyField bytes s (over (keptFrame bytes s) store) parity ≡ 0
-
--- a block of 16 by 8 samples whose first n, row by row, are 9, and one of zeros
-abbrev pub begun : ℕ → ℕ → ℕ → ℕ
-begun n x r = cond (ltb (16 * r + x) n) 9 0
-
-abbrev pub blank : ℕ → ℕ → ℕ
-blank x r = 0
-
--- 33 of 128 differ: busy; 32: not
-abbrev pub CardBlocks : Type 0
-CardBlocks = (busy (begun 33) blank 16 8 0 0 ≡ true) × (busy (begun 32) blank 16 8 0 0 ≡ false)

@@ -1,20 +1,22 @@
 -- The bench cards of document 01 that are marked P, in its order: one table, `cards`, under one statement, `CardsHold`, which
 -- proofs/Cards.antt proves. A card holds a number that the definitions of the crates give and the number that document 01 says. A test
 -- counts as 1 where it holds and 0 where it does not; symbols and cadences have their numbers. Lists are newest first. Assumes nothing.
-use Prim.Native.Nat.{ℕ, zero, suc}
+use Prim.Native.Nat.{ℕ, zero, suc, _+_, _*_, _%_}
 use mathlib.Core.Path.{_≡_}
 use mathlib.Core.Bool.{Bool, cond}
 use mathlib.Core.List.{List, [], _∷_}
+use lib.Dec.{ltb}
 use Rattle.field.specs.declared.Cadence.the-variants.{None, Whole}
 use Rattle.field.specs.declared.Parity.the-variants.{Top}
 use Rattle.field.specs.Field.{cadenceNumber}
 use Rattle.comb.specs.Comb.{planeComb}
 use Rattle.block.specs.Block.{oneIf, busy}
-use Rattle.block.specs.Claims.{begun, blank}
 use Rattle.pulldown.specs.declared.Symbol.the-variants.{Still, Moved, RepeatFirst}
+use Rattle.pulldown.specs.declared.Seen.{Seen}
+use Rattle.pulldown.specs.declared.Seen.the-variants as seen
 use Rattle.pulldown.specs.Symbols.{symbolNumber, symbolOf}
+use Rattle.pulldown.specs.Table.{expectedAt}
 use Rattle.pulldown.specs.Lock.{lockedOf, lockOf, predictCadence}
-use Rattle.pulldown.specs.Cards.{clean}
 use Rattle.telecine.specs.declared.Detector.{Detector}
 use Rattle.telecine.specs.declared.Measured.{Measured}
 use Rattle.telecine.specs.declared.Measured.the-variants.{Absent, Counts}
@@ -26,6 +28,13 @@ pub record Card : Type 0 where
 
 abbrev pub card : ℕ → ℕ → Card
 card came says = record { came = came; says = says }
+
+-- a block of 16 by 8 samples whose first n, row by row, are 9, and one of zeros
+abbrev pub begun : ℕ → ℕ → ℕ → ℕ
+begun n x r = cond (ltb (16 * r + x) n) 9 0
+
+abbrev pub blank : ℕ → ℕ → ℕ
+blank x r = 0
 
 -- whether a block of 16 by 8 samples, the first n of which differ, is busy
 abbrev pub busyWith : ℕ → ℕ
@@ -44,6 +53,11 @@ orElse (suc n) other = suc n
 abbrev pub firstOf : (ℕ → Bool) → ℕ → ℕ
 firstOf passes zero = 0
 firstOf passes (suc n) = orElse (firstOf passes n) (cond (passes (suc n)) (suc n) 0)
+
+-- the first n frames of the clean pattern, from a step on
+abbrev pub clean : ℕ → ℕ → List Seen
+clean step zero = []
+clean step (suc n) = seen.Symbol (expectedAt ((step + n) % 5)) ∷ clean step n
 
 -- the frame, counted from 1, at which the clean pattern from an empty run that starts at a step locks first; 0 for none of 15
 abbrev pub locksFrom : ℕ → ℕ

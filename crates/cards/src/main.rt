@@ -1,9 +1,11 @@
-// Program `cards`: runs the bench cards of document 01 and prints a line for each, `NAME: ok`, or what
-// came and what was expected. Those that are proved (specs/Cards.antt) are run too. Assumes nothing.
+// Program `cards`: runs the bench cards of document 01. Standard input is the list of what that document
+// says of each, a line `NAME: ANSWER` (crates/cards/stdin). Of each card a line is printed, `NAME: ok`, or
+// what came and the list's line in its place; at the end, how many were run and how many differ. Those
+// that are proved (specs/Cards.antt) are run too. Assumes nothing.
 ghost use mathlib.Core.Path.{_≡_};
 ghost use mathlib.Core.List.{List, _∷_};
 ghost use Prim.Native.Nat.{_≤_};
-ghost use Rattle.pulldown.specs.Symbols.{symbolNumber};
+ghost use lib.ListN.{length};
 ghost use Rattle.telecine.specs.History.{Call};
 ghost use Rattle.cards.specs.Cards.{measuredBusy, entry, toEntry0, toEntry9, detectorAfter};
 use block::Counted;
@@ -21,6 +23,16 @@ use telecine::Measured;
 
 // ---- lines
 
+// Where the next card's line starts in the list, and how many cards were run and differ.
+struct Told {
+    at: usize,
+    run: u64,
+    differ: u64,
+}
+
+// No place of a line.
+const NOWHERE: usize = usize::MAX;
+
 fn say(text: &[u8]) {
     io::write_all(1, text);
 }
@@ -29,89 +41,116 @@ fn say_number(n: u64) {
     io::print_decimal(1, n);
 }
 
-fn say_cadence(cadence: Cadence) {
-    match cadence {
-        Cadence::None => say(b"none"),
-        Cadence::Whole => say(b"whole"),
-        Cadence::Drop => say(b"drop"),
-        Cadence::Spanning => say(b"spanning"),
-    }
+fn one_if(test: bool) -> u64
+    ensures { λ r. ⌜ r ≤ 1 ⌝ }
+{
+    if test { 1 } else { 0 }
 }
 
-fn say_symbol(symbol: Symbol) {
-    match symbol {
-        Symbol::Still => say(b"still"),
-        Symbol::Moved => say(b"moved"),
-        Symbol::RepeatFirst => say(b"first repeats"),
-        Symbol::RepeatSecond => say(b"second repeats"),
-    }
+fn smaller(a: usize, b: usize) -> usize
+    ensures { λ r. ⌜ r ≤ b ⌝ }
+{
+    if a < b { a } else { b }
 }
 
-// The whole line where what came is what was expected, and else its start.
-fn begin(name: &[u8], ok: bool) {
+// Where the line that starts at a place ends.
+fn line_end(list: &[u8], from: usize) -> usize
+    requires { ⌜ from ≤ length (now list) ⌝ }
+    ensures { λ r. ⌜ (from ≤ r) × (r ≤ length (now (list .entry))) ⌝ }
+{
+    let mut end = from;
+    while end < list.len() {
+        if list[end] == 10 {
+            return end;
+        }
+        end += 1;
+    }
+    end
+}
+
+// The place behind a text that stands at a place of a line; nowhere where it does not stand there.
+fn behind(line: &[u8], at: usize, text: &[u8]) -> usize {
+    let mut place = at;
+    let mut i: usize = 0;
+    while i < text.len() {
+        if line.len() <= place {
+            return NOWHERE;
+        }
+        if line[place] != text[i] {
+            return NOWHERE;
+        }
+        place += 1;
+        i += 1;
+    }
+    place
+}
+
+fn tell(list: &[u8], told: Told, name: &[u8], answer: &[u8]) -> Told {
+    let from = smaller(told.at, list.len());
+    let end = line_end(list, from);
+    let line = &list[from..end];
+    let named = behind(line, behind(line, 0, name), b": ");
+    let ok = behind(line, named, answer) == line.len();
     say(name);
     if ok {
         say(b": ok\n");
     } else {
         say(b": ");
+        say(answer);
+        say(b", expected '");
+        say(line);
+        say(b"'\n");
+    }
+    Told {
+        at: if end < list.len() { end + 1 } else { end },
+        run: std::num::wrapping_add_u64(told.run, 1),
+        differ: std::num::wrapping_add_u64(told.differ, one_if(!ok)),
     }
 }
 
-fn tell_number(name: &[u8], came: u64, expected: u64) {
-    begin(name, came == expected);
-    if came != expected {
-        say_number(came);
-        say(b", expected ");
-        say_number(expected);
-        say(b"\n");
-    }
+fn tell_number(list: &[u8], told: Told, name: &[u8], came: u64) -> Told {
+    let mut text = [0u8; 20];
+    let n = io::decimal(came, &mut text);
+    tell(list, told, name, &text[..n])
 }
 
-fn tell_refused(name: &[u8], no: u8) {
-    begin(name, false);
-    say(b"refused ");
-    say_number(no as u64);
-    say(b", expected a value\n");
+fn tell_refused(list: &[u8], told: Told, name: &[u8]) -> Told {
+    tell(list, told, name, b"a refusal")
 }
 
-fn tell_cadence(name: &[u8], came: Cadence, expected: Cadence) {
-    let ok = came.number() == expected.number();
-    begin(name, ok);
-    if !ok {
-        say_cadence(came);
-        say(b", expected ");
-        say_cadence(expected);
-        say(b"\n");
-    }
-}
-
-fn tell_answer(name: &[u8], came: Answer, expected: Cadence) {
+fn tell_cadence(list: &[u8], told: Told, name: &[u8], came: Cadence) -> Told {
     match came {
-        Answer::Gave(cadence) => tell_cadence(name, cadence, expected),
-        Answer::Refused(no) => tell_refused(name, no),
+        Cadence::None => tell(list, told, name, b"None"),
+        Cadence::Whole => tell(list, told, name, b"Whole"),
+        Cadence::Drop => tell(list, told, name, b"Drop"),
+        Cadence::Spanning => tell(list, told, name, b"Spanning"),
     }
 }
 
-fn symbol_number(symbol: Symbol) -> u8
-    ensures { λ r. ⌜ r ≡ symbolNumber symbol ⌝ }
-{
-    match symbol {
-        Symbol::Still => 0,
-        Symbol::Moved => 1,
-        Symbol::RepeatFirst => 2,
-        Symbol::RepeatSecond => 3,
+fn tell_answer(list: &[u8], told: Told, name: &[u8], came: Answer) -> Told {
+    match came {
+        Answer::Gave(cadence) => tell_cadence(list, told, name, cadence),
+        Answer::Refused(_) => tell_refused(list, told, name),
     }
 }
 
-fn tell_symbol(name: &[u8], came: Symbol, expected: Symbol) {
-    let ok = symbol_number(came) == symbol_number(expected);
-    begin(name, ok);
-    if !ok {
-        say_symbol(came);
-        say(b", expected ");
-        say_symbol(expected);
-        say(b"\n");
+fn tell_symbol(list: &[u8], told: Told, name: &[u8], came: Symbol) -> Told {
+    match came {
+        Symbol::Still => tell(list, told, name, b"Still"),
+        Symbol::Moved => tell(list, told, name, b"Moved"),
+        Symbol::RepeatFirst => tell(list, told, name, b"RepeatFirst"),
+        Symbol::RepeatSecond => tell(list, told, name, b"RepeatSecond"),
     }
+}
+
+fn tell_all(list: &[u8], told: Told) {
+    if told.at < list.len() {
+        say(b"the list goes on after the last card\n");
+    }
+    say_number(told.run);
+    say(b" cards, ");
+    say_number(told.differ);
+    say(b" differ\n");
 }
 
 // ---- the detector
@@ -120,12 +159,6 @@ fn tell_symbol(name: &[u8], came: Symbol, expected: Symbol) {
 struct Stills {
     detector: Detector,
     kept: u64,
-}
-
-fn one_if(test: bool) -> u64
-    ensures { λ r. ⌜ r ≤ 1 ⌝ }
-{
-    if test { 1 } else { 0 }
 }
 
 fn busy(first: u64, second: u64) -> Measured
@@ -173,23 +206,11 @@ fn after_entry_9() -> Detector
     entry(eight, 40, 40)
 }
 
-fn ahead_cards() {
+fn ahead_cards(list: &[u8], told: Told) -> Told {
     let detector = after_entry_9();
-    tell_answer(
-        b"after entry 9, ahead 0",
-        detector.predict(0),
-        Cadence::None,
-    );
-    tell_answer(
-        b"after entry 9, ahead 4",
-        detector.predict(4),
-        Cadence::Whole,
-    );
-    tell_answer(
-        b"after entry 9, ahead 6",
-        detector.predict(6),
-        Cadence::Drop,
-    );
+    let one = tell_answer(list, told, b"after entry 9, ahead 0", detector.predict(0));
+    let two = tell_answer(list, one, b"after entry 9, ahead 4", detector.predict(4));
+    tell_answer(list, two, b"after entry 9, ahead 6", detector.predict(6))
 }
 
 // So many stills after entry 9, which is a moved frame with the lock on it.
@@ -211,13 +232,19 @@ fn after_stills(n: u64) -> Stills
     }
 }
 
-fn still_cards() {
+fn still_cards(list: &[u8], told: Told) -> Told {
+    let twelve = after_stills(12);
+    let one = tell_number(
+        list,
+        told,
+        b"stills that keep a lock on a moved frame",
+        twelve.kept,
+    );
     let eleven = after_stills(11);
-    tell_number(b"eleven stills keep the lock", eleven.kept, 11);
     let detector = eleven.detector;
     let twelfth = detector.push_measured(Parity::Top, busy(0, 0));
     let answer = twelfth.answer;
-    tell_answer(b"the twelfth still", answer, Cadence::None);
+    tell_answer(list, one, b"the twelfth still", answer)
 }
 
 // ---- the clean pattern
@@ -254,12 +281,37 @@ fn locks_from(step: u64) -> u64
     0
 }
 
-fn pattern_cards() {
-    tell_number(b"clean pattern from step 0", locks_from(0), 11);
-    tell_number(b"clean pattern from step 1", locks_from(1), 10);
-    tell_number(b"clean pattern from step 2", locks_from(2), 9);
-    tell_number(b"clean pattern from step 3", locks_from(3), 13);
-    tell_number(b"clean pattern from step 4", locks_from(4), 12);
+fn pattern_cards(list: &[u8], told: Told) -> Told {
+    let one = tell_number(
+        list,
+        told,
+        b"frame at which the clean pattern from step 0 locks",
+        locks_from(0),
+    );
+    let two = tell_number(
+        list,
+        one,
+        b"frame at which the clean pattern from step 1 locks",
+        locks_from(1),
+    );
+    let three = tell_number(
+        list,
+        two,
+        b"frame at which the clean pattern from step 2 locks",
+        locks_from(2),
+    );
+    let four = tell_number(
+        list,
+        three,
+        b"frame at which the clean pattern from step 3 locks",
+        locks_from(3),
+    );
+    tell_number(
+        list,
+        four,
+        b"frame at which the clean pattern from step 4 locks",
+        locks_from(4),
+    )
 }
 
 // ---- blocks
@@ -285,64 +337,94 @@ fn busy_with(n: usize) -> Counted
     block::count(&frame, shape, &[0u8; 256], Parity::Top)
 }
 
-fn tell_busy(name: &[u8], came: Counted, expected: u64) {
-    match came {
-        Counted::Value(counts) => tell_number(name, counts.busy, expected),
-        Counted::Refused(no) => tell_refused(name, no),
+fn tell_whether(list: &[u8], told: Told, name: &[u8], busy: u64) -> Told {
+    if busy == 0 {
+        tell(list, told, name, b"not busy")
+    } else {
+        tell(list, told, name, b"busy")
     }
 }
 
-fn busy_cards() {
-    tell_busy(b"33 of 128 differ", busy_with(33), 1);
-    tell_busy(b"32 of 128 differ", busy_with(32), 0);
+fn tell_busy(list: &[u8], told: Told, name: &[u8], came: Counted) -> Told {
+    match came {
+        Counted::Value(counts) => tell_whether(list, told, name, counts.busy),
+        Counted::Refused(_) => tell_refused(list, told, name),
+    }
+}
+
+fn busy_cards(list: &[u8], told: Told) -> Told {
+    let one = tell_busy(list, told, b"33 of 128 differ", busy_with(33));
+    tell_busy(list, one, b"32 of 128 differ", busy_with(32))
 }
 
 // ---- symbols
 
-fn symbol_cards() {
-    tell_symbol(
-        b"100 blocks, 1 and 4",
+fn symbol_cards(list: &[u8], told: Told) -> Told {
+    let one = tell_symbol(
+        list,
+        told,
+        b"100 blocks, counts 1 and 4",
         pulldown::classify_counts(1, 100, 4),
-        Symbol::RepeatFirst,
     );
-    tell_symbol(
-        b"100 blocks, 2 and 4",
+    let two = tell_symbol(
+        list,
+        one,
+        b"100 blocks, counts 2 and 4",
         pulldown::classify_counts(2, 100, 4),
-        Symbol::Moved,
     );
     tell_symbol(
-        b"100 blocks, 3 and 3",
+        list,
+        two,
+        b"100 blocks, counts 3 and 3",
         pulldown::classify_counts(3, 100, 3),
-        Symbol::Still,
-    );
+    )
 }
 
-// Moving is 63, and quiet is 7: one more in the first field, or one fewer in the second, is no repeat.
-fn threshold_cards() {
-    tell_symbol(
-        b"8160 blocks, 7 and 63",
-        pulldown::classify_counts(7, 8160, 63),
-        Symbol::RepeatFirst,
-    );
-    tell_symbol(
-        b"8160 blocks, 8 and 63",
-        pulldown::classify_counts(8, 8160, 63),
-        Symbol::Moved,
-    );
-    tell_symbol(
-        b"8160 blocks, 7 and 62",
-        pulldown::classify_counts(7, 8160, 62),
-        Symbol::Still,
-    );
+fn first_repeats(first: u64, blocks: u64, second: u64) -> bool {
+    match pulldown::classify_counts(first, blocks, second) {
+        Symbol::Still => false,
+        Symbol::Moved => false,
+        Symbol::RepeatFirst => true,
+        Symbol::RepeatSecond => false,
+    }
+}
+
+// The least count of the second field with which the first, itself at 0, repeats.
+fn moving_of(blocks: u64) -> u64 {
+    let mut n: u64 = 0;
+    while n < blocks {
+        if first_repeats(0, blocks, n) {
+            return n;
+        }
+        n += 1;
+    }
+    blocks
+}
+
+// The largest count of the first field with which it repeats where all of the second are busy.
+fn quiet_of(blocks: u64) -> u64 {
+    let mut n: u64 = 0;
+    while n < blocks {
+        if !first_repeats(n + 1, blocks, blocks) {
+            return n;
+        }
+        n += 1;
+    }
+    blocks
+}
+
+fn threshold_cards(list: &[u8], told: Told) -> Told {
+    let one = tell_number(list, told, b"8160 blocks, moving", moving_of(8160));
+    tell_number(list, one, b"8160 blocks, quiet", quiet_of(8160))
 }
 
 // ---- samples
 
-fn comb_card() {
-    let name = b"10, 20, 10 in one column";
+fn comb_card(list: &[u8], told: Told) -> Told {
+    let name = b"10, 20, 10 in one column, comb";
     match comb::comb(&[10u8, 20, 10], 1, 3, 8, 1) {
-        comb::Combed::Value(total) => tell_number(name, total, 20),
-        comb::Combed::Refused(no) => tell_refused(name, no),
+        comb::Combed::Value(total) => tell_number(list, told, name, total),
+        comb::Combed::Refused(_) => tell_refused(list, told, name),
     }
 }
 
@@ -357,47 +439,59 @@ fn ten_bits(layout: Layout) -> Shape {
     }
 }
 
-fn tell_one(name: &[u8], came: f32) {
-    begin(name, came == 1.0);
-    if came != 1.0 {
-        say(b"another value, expected 1.0\n");
+fn tell_value(list: &[u8], told: Told, name: &[u8], came: f32) -> Told {
+    if came == 1.0 {
+        tell(list, told, name, b"1.0")
+    } else {
+        tell(list, told, name, b"another value")
     }
 }
 
-fn value_card() {
-    let name = b"ten bits FF 03 read 1.0";
+fn value_card(list: &[u8], told: Told) -> Told {
+    let name = b"ten bits, bytes FF 03 read";
     let bytes = [255u8, 3];
     let sampled = plane::at(&bytes, ten_bits(Layout::Planar), 0, 0);
     match sampled {
-        plane::Sampled::Value(value) => tell_one(name, value),
-        plane::Sampled::Refused(no) => tell_refused(name, no),
+        plane::Sampled::Value(value) => tell_value(list, told, name, value),
+        plane::Sampled::Refused(_) => tell_refused(list, told, name),
     }
 }
 
-fn code_card() {
-    let name = b"ten bits C0 FF shifted by 6";
+fn code_card(list: &[u8], told: Told) -> Told {
+    let name = b"ten bits, bytes C0 FF shifted by 6";
     let bytes = [192u8, 255];
     let coded = plane::code(&bytes, ten_bits(Layout::Luma), 0, 0);
     match coded {
-        plane::Coded::Value(code) => tell_number(name, code as u64, 1023),
-        plane::Coded::Refused(no) => tell_refused(name, no),
+        plane::Coded::Value(code) => tell_number(list, told, name, code as u64),
+        plane::Coded::Refused(_) => tell_refused(list, told, name),
     }
 }
 
-fn quantise_cards() {
-    tell_number(b"quantise 0.5", colour::quantise(0.5) as u64, 128);
-    tell_number(b"quantise 1.0", colour::quantise(1.0) as u64, 255);
+fn quantise_cards(list: &[u8], told: Told) -> Told {
+    let one = tell_number(list, told, b"quantise 0.5", colour::quantise(0.5) as u64);
+    tell_number(list, one, b"quantise 1.0", colour::quantise(1.0) as u64)
+}
+
+fn run(list: &[u8]) {
+    let none = Told {
+        at: 0,
+        run: 0,
+        differ: 0,
+    };
+    let blocks = busy_cards(list, none);
+    let symbols = symbol_cards(list, blocks);
+    let patterns = pattern_cards(list, symbols);
+    let combed = comb_card(list, patterns);
+    let foretold = ahead_cards(list, combed);
+    let stills = still_cards(list, foretold);
+    let thresholds = threshold_cards(list, stills);
+    let value = value_card(list, thresholds);
+    let code = code_card(list, value);
+    tell_all(list, quantise_cards(list, code));
 }
 
 fn main() {
-    busy_cards();
-    symbol_cards();
-    pattern_cards();
-    comb_card();
-    ahead_cards();
-    still_cards();
-    threshold_cards();
-    value_card();
-    code_card();
-    quantise_cards();
+    let mut buffer = io::buffer();
+    let n = io::read_full(0, &mut buffer);
+    run(&buffer[..n]);
 }

@@ -1,15 +1,14 @@
 -- The claims of specs/Claims.antt. Assumes nothing.
 use Prim.Native.Nat.{ℕ, _-_}
-use mathlib.Core.Path.{_≡_, refl, ap}
+use mathlib.Core.Path.{_≡_, ap}
 use native.Mathlib.Omega.{arith}
 use Rattle.laws.specs.Refusal.{rising}
 use Rattle.laws.specs.Sums.{sumOver}
 use Rattle.laws.proofs.Claims.{lowest-says}
-use Rattle.plane.specs.Plane.{codeOf}
 use Rattle.comb.specs.declared.Combed.the-variants.{Value, Refused}
-use Rattle.comb.specs.Comb.{bendOf, combOf, planeComb}
+use Rattle.comb.specs.Comb.{bendOf, combOf}
 use Rattle.comb.specs.Answer.{combTests, rgbaTests}
-use Rattle.comb.specs.Claims.{CombSays, RgbaSays, OneCombed, NoInnerRow, CardColumn}
+use Rattle.comb.specs.Claims.{CombSays, RgbaSays, OneCombed, NoInnerRow}
 
 pub comb-says : CombSays
 unfolding rising
@@ -30,7 +29,3 @@ unfolding combOf sumOver
 no-inner-row code width height h =
     let none : height - 2 ≡ 0 = omega arith in
     ap (λ (rows : ℕ). sumOver rows (λ y. sumOver width (λ x. bendOf code x y))) none
-
-pub card-column : CardColumn
-unfolding planeComb combOf sumOver codeOf
-card-column = refl

@@ -1,10 +1,9 @@
 -- What holds of the definitions here. proofs/Claims.antt proves each under its name in small letters. Assumes nothing.
 use Prim.Native.Nat.{ℕ, _≤_}
 use mathlib.Core.Path.{_≡_}
-use mathlib.Core.List.{[], _∷_}
 use Rattle.laws.specs.Refusal.{Says}
 use Rattle.comb.specs.declared.Combed.{Combed}
-use Rattle.comb.specs.Comb.{combOf, planeComb}
+use Rattle.comb.specs.Comb.{combOf}
 use Rattle.comb.specs.Answer.{combedNo, combedValues, combTests, rgbaTests}
 
 -- `comb` gives 4 exactly when the shape is outside the bounds, 6 exactly when only the plane is too short, and 0 exactly when neither
@@ -22,7 +21,3 @@ OneCombed = (a b : Combed) → combedNo a ≡ combedNo b → combedValues a ≡ 
 -- a picture of two rows or fewer has no inner row, and comb 0
 abbrev pub NoInnerRow : Type 0
 NoInnerRow = (code : ℕ → ℕ → ℕ) (width height : ℕ) → height ≤ 2 → combOf code width height ≡ 0
-
--- 10, 20, 10 in one column: comb 20
-abbrev pub CardColumn : Type 0
-CardColumn = planeComb (10 ∷ 20 ∷ 10 ∷ []) 1 3 8 1 ≡ 20

@@ -9,4 +9,3 @@ pub mod Holds
 pub mod Claims
 pub mod Step
 pub mod Codes
-pub mod Cards

@@ -6,4 +6,3 @@ pub mod Lock
 pub mod Codes
 pub mod Inner
 pub mod Claims
-pub mod Cards
