@@ -69,18 +69,21 @@ pub fn shape_named(numbers: PlaneNumbers) -> plane::Shape
 }
 
 // Whether a coordinate lies in a plane of this size, as large as the host says it is.
-fn is_inside(x: i32, size: u32) -> bool
+fn is_inside(x: i32, size: u64) -> bool
     ensures { λ r. ⌜ r ≡ inside size x ⌝ }
 {
-    (0 <= x) & ((x as i64) < size as i64)
+    if x < 0 {
+        return false;
+    }
+    (x as u64) < size
 }
 
 // The number of `desk_code`. Its coordinates are judged before the shape, so by the sizes as given.
 fn code_no(shape: PlaneNumbers, bytes: usize, x: i32, y: i32) -> u8
     ensures { λ r. ⌜ r ≡ codeNo shape bytes x y ⌝ }
 {
-    let inner = is_inside(x, shape.width) & is_inside(y, shape.height);
     let held = shape_named(shape);
+    let inner = is_inside(x, shape.width as u64) & is_inside(y, shape.height as u64);
     refusal::lowest_of(
         (shape.layout <= 3) & inner,
         plane::good_shape(held),

@@ -67,8 +67,7 @@ pub fn at(shape: PlaneNumbers, length: usize, x: i32, y: i32) -> u8 {
 /// "`code` takes only coordinates inside the plane", as large as it is said to
 /// be.
 pub fn code(shape: PlaneNumbers, length: usize, x: i32, y: i32) -> u8 {
-    let inside =
-        |coordinate: i32, size: u32| (0..i64::from(size)).contains(&i64::from(coordinate));
+    let inside = |coordinate: i32, size: u32| (0..i64::from(size)).contains(&i64::from(coordinate));
     let outside = !inside(x, shape.width) || !inside(y, shape.height);
     read(shape, length, outside)
 }
@@ -221,7 +220,10 @@ mod tests {
             width: 65_537,
             ..GOOD
         };
-        assert_eq!((code(wide, 99, 65_536, 0), code(wide, 99, 65_537, 0)), (4, 3));
+        assert_eq!(
+            (code(wide, 99, 65_536, 0), code(wide, 99, 65_537, 0)),
+            (4, 3)
+        );
         let high = PlaneNumbers {
             height: u32::MAX,
             ..GOOD

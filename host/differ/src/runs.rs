@@ -45,12 +45,12 @@ pub const RUNS: &[Run] = &[
     Run {
         name: at::NAME,
         about: "every tiny plane with coordinates in and around it; random planes of every depth and \
-                layout; large planes; shapes and lengths past their bounds",
+                layout; large planes; shapes and lengths past their bounds; sizes past 16 bits",
         run: at::run,
     },
     Run {
         name: code::NAME,
-        about: "the planes of `at`, coordinates mostly inside",
+        about: "the planes of `at`, coordinates mostly inside, also where a size is past 16 bits",
         run: code::run,
     },
     Run {

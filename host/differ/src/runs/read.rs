@@ -68,7 +68,37 @@ pub fn cases(random: &mut Random, outside_in: u64) -> impl Iterator<Item = Asked
     let tiny = every_tiny_plane(own());
     let large = large_planes(own(), 2000, outside_in);
     let others = random_planes(own(), 20_000, outside_in);
-    tiny.chain(large).chain(others)
+    tiny.chain(large).chain(past_sixteen_bits()).chain(others)
+}
+
+/// Sizes at the end of 16 bits and past it.
+const PAST: [u32; 7] = [65_535, 65_536, 65_537, 70_000, 131_071, 1 << 31, u32::MAX];
+
+/// Planes with one size, or both, past 16 bits, and so out of bounds; the
+/// coordinates around that end and around the size, which is how large the
+/// plane is said to be.
+fn past_sixteen_bits() -> impl Iterator<Item = Asked> {
+    let sizes = PAST
+        .iter()
+        .flat_map(|&size| [(size, 3), (3, size), (size, size)]);
+    sizes.flat_map(|(width, height)| {
+        let shape = numbers(width, height, 8, 3, 0);
+        let given = Rc::new(Given::new(shape, 64, Contents::Stripes));
+        around_the_end(height).into_iter().flat_map(move |y| {
+            let given = given.clone();
+            around_the_end(width).into_iter().map(move |x| Asked {
+                given: given.clone(),
+                x,
+                y,
+            })
+        })
+    })
+}
+
+fn around_the_end(size: u32) -> Vec<i32> {
+    let around = |at: u32| (i64::from(at) - 2..=i64::from(at) + 1).map(i32::try_from);
+    let near = around(size).chain(around(65_536)).flatten();
+    near.chain([0, 8192, i32::MAX]).collect()
 }
 
 /// The ends of what `at` takes, and of the type.

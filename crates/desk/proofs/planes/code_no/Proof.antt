@@ -20,14 +20,20 @@ use Rattle.desk.proofs.Cut.{read-number}
 use Rattle.desk.proofs.planes.code_no.Statement.{statement}
 use Rattle.desk.proofs.planes.code_no.Tie as tie
 
+shape-named-requires : tie.Need-shape-named-requires
+shape-named-requires c κs = search needs
+
+cast-is-inside : tie.Need-cast-is-inside
+cast-is-inside c = search needs
+
 is-inside-requires : tie.Need-is-inside-requires
 is-inside-requires c κs = search needs
 
+cast-is-inside-2 : tie.Need-cast-is-inside-2
+cast-is-inside-2 c = search needs
+
 is-inside-requires-2 : tie.Need-is-inside-requires-2
 is-inside-requires-2 c κs = search needs
-
-shape-named-requires : tie.Need-shape-named-requires
-shape-named-requires c κs = search needs
 
 good-shape-requires : tie.Need-good-shape-requires
 good-shape-requires c κs = search needs
@@ -48,11 +54,11 @@ judged named coordinates good needed bytes = lowest-halves 3 named coordinates (
 
 returns : tie.Need-returns
 returns c =
-    let s = c .before .before .before .before .before .before .before in
+    let s = c .before .before .before .before .before .before .before .before .before in
     let a = s .args in
     let x = c .before .before .before .before .before .before .is-inside .ensures ∙ ap (inside (a .shape .width)) (toZ-ofZ (s .fits .x)) in
-    let y = c .before .before .before .before .before .is-inside2 .ensures ∙ ap (inside (a .shape .height)) (toZ-ofZ (s .fits .y)) in
-    let held = c .before .before .before .before .shape-named .ensures in
+    let y = c .before .before .before .before .is-inside2 .ensures ∙ ap (inside (a .shape .height)) (toZ-ofZ (s .fits .y)) in
+    let held = c .before .before .before .before .before .before .before .before .shape-named .ensures in
     let good = c .before .before .good-shape .ensures ∙ ap goodShape held in
     let needed = c .before .plane-bytes .ensures ∙ ap planeBytes held in
     c .lowest-of .ensures
@@ -64,9 +70,11 @@ pub code-no-spec : {M : Type 1} → statement M
 code-no-spec =
     tie.close
     (tie.spec
-    is-inside-requires
-    is-inside-requires-2
     shape-named-requires
+    cast-is-inside
+    is-inside-requires
+    cast-is-inside-2
+    is-inside-requires-2
     good-shape-requires
     plane-bytes-requires
     lowest-of-requires
