@@ -11,5 +11,5 @@ plane-says before before-bytes cur cur-bytes after after-bytes room = lowest-say
 
 pub band-says : BandSays
 unfolding rising
-band-says before before-bytes cur cur-bytes after after-bytes from count room =
-    lowest-says (bandTests before before-bytes cur cur-bytes after after-bytes from count room) tt
+band-says rows before before-bytes cur cur-bytes after after-bytes from count room =
+    lowest-says (bandTests rows before before-bytes cur cur-bytes after after-bytes from count room) tt

@@ -9,13 +9,16 @@ use borrow.Author.Tests.{leb-true, eqb-true, ne-eqb, le-leb}
 use lib.Dec.{leb, eqb, lit<}
 use Rattle.laws.specs.Refusal.{lowest, written}
 use Rattle.laws.proofs.Refusal.{first-passes, rest-passes}
+use Rattle.field.specs.declared.Parity.{Parity}
 use Rattle.plane.specs.declared.Shape.{Shape}
 use Rattle.plane.specs.Plane.{goodShape, planeBytes, agree}
 use Rattle.plane.proofs.Coordinates.{both-inside}
 use Rattle.filter.specs.declared.Quality.{Quality}
 use Rattle.filter.specs.declared.Rows.{Rows}
 use Rattle.filter.specs.Filter.{Sampler}
-use Rattle.fill.specs.Fill.{linesOf, planeNo}
+use Rattle.filter.specs.Rows.{goodRows}
+use Rattle.filter.proofs.Claims.{field-rows-good}
+use Rattle.fill.specs.Fill.{linesOf, planeNo, fieldRows}
 use Rattle.fill.specs.Band.{bandOf, bandNo}
 use Rattle.fill.specs.Lines.{Lent, Ready}
 
@@ -45,10 +48,11 @@ alike a b h =
     let sizes = both-inside (eqb (a .width) (b .width)) (eqb (a .height) (b .height)) (to-depth .0) in
     (eqb-true (a .width) (b .width) (sizes .0), eqb-true (a .height) (b .height) (sizes .1))
 
-module _ (before : Shape) (before-bytes : ℕ) (cur : Shape) (cur-bytes : ℕ) (after : Shape) (after-bytes from count room : ℕ)
-    (done : bandNo before before-bytes cur cur-bytes after after-bytes from count room ≡ 0) where
+module _ (rows : Rows) (before : Shape) (before-bytes : ℕ) (cur : Shape) (cur-bytes : ℕ) (after : Shape) (after-bytes from count room : ℕ)
+    (done : bandNo rows before before-bytes cur cur-bytes after after-bytes from count room ≡ 0) where
   pub judged : Ready before before-bytes cur cur-bytes after after-bytes × ((from + count ≤ cur .height) × (count * cur .width ≤ room))
   judged =
+      let inside = both-inside (goodRows rows) (leb (from + count) (cur .height)) (first-passes 3 _ _ (lit< tt) done) in
       let past-rows = rest-passes 3 _ _ (lit< tt) done in
       let past-shapes = rest-passes 4 _ _ (lit< tt) past-rows in
       let past-sizes = rest-passes 5 _ _ (lit< tt) past-shapes in
@@ -69,7 +73,7 @@ module _ (before : Shape) (before-bytes : ℕ) (cur : Shape) (cur-bytes : ℕ) (
           after-width = coming .0;
           after-height = coming .1;
         },
-        (leb-true (from + count) (cur .height) (first-passes 3 _ _ (lit< tt) done), leb-true (count * cur .width) room (first-passes 7 _ _ (lit< tt) past-bytes)),
+        (leb-true (from + count) (cur .height) (inside .1), leb-true (count * cur .width) room (first-passes 7 _ _ (lit< tt) past-bytes)),
       )
 
 -- ---- how the call ends: its number n is the definition's m
@@ -85,10 +89,12 @@ leaves {A} {n} {m} {old} new e z = (e, subst (λ (k : ℕ). old ≡ written k ne
 -- ---- a whole plane is the band of all its rows
 
 pub whole-number :
-    (before : Shape) (before-bytes : ℕ) (cur : Shape) (cur-bytes : ℕ) (after : Shape) (after-bytes room : ℕ) →
-    bandNo before before-bytes cur cur-bytes after after-bytes 0 (cur .height) room ≡ planeNo before before-bytes cur cur-bytes after after-bytes room
+    (first : Parity) (before : Shape) (before-bytes : ℕ) (cur : Shape) (cur-bytes : ℕ) (after : Shape) (after-bytes room : ℕ) →
+    bandNo (fieldRows first) before before-bytes cur cur-bytes after after-bytes 0 (cur .height) room
+    ≡ planeNo before before-bytes cur cur-bytes after after-bytes room
 unfolding lowest
-whole-number before before-bytes cur cur-bytes after after-bytes room = simp (le-leb (0 + cur .height) (cur .height) (omega arith))
+whole-number first before before-bytes cur cur-bytes after after-bytes room =
+    simp (field-rows-good first, le-leb (0 + cur .height) (cur .height) (omega arith))
 
 pub whole-lines :
     (quality : Quality) (rows : Rows) (before cur after : Sampler) (width height : ℕ) →

@@ -2,6 +2,7 @@
 use Prim.Native.Nat.{ℕ}
 use Rattle.laws.specs.Refusal.{Says}
 use Rattle.plane.specs.declared.Shape.{Shape}
+use Rattle.filter.specs.declared.Rows.{Rows}
 use Rattle.fill.specs.Fill.{planeTests}
 use Rattle.fill.specs.Band.{bandTests}
 
@@ -13,5 +14,5 @@ PlaneSays =
 
 abbrev pub BandSays : Type 0
 BandSays =
-    (before : Shape) (before-bytes : ℕ) (cur : Shape) (cur-bytes : ℕ) (after : Shape) (after-bytes from count room : ℕ) →
-    Says (bandTests before before-bytes cur cur-bytes after after-bytes from count room)
+    (rows : Rows) (before : Shape) (before-bytes : ℕ) (cur : Shape) (cur-bytes : ℕ) (after : Shape) (after-bytes from count room : ℕ) →
+    Says (bandTests rows before before-bytes cur cur-bytes after after-bytes from count room)

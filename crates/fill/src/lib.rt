@@ -525,10 +525,12 @@ pub fn band(
     from: u16,
     count: u16,
 ) -> u8
-    ensures { λ r. ⌜ r ≡ bandNo «before_shape» (length (now (before .entry))) «cur_shape» (length (now (cur .entry))) «after_shape» (length (now (after .entry))) from count (length (now (out .entry))) ⌝ }
-    ensures { λ _. ⌜ now (out .exit) ≡ written (bandNo «before_shape» (length (now (before .entry))) «cur_shape» (length (now (cur .entry))) «after_shape» (length (now (after .entry))) from count (length (now (out .entry)))) (over (bandOf quality rows (valueOf (now (before .entry)) «before_shape») (valueOf (now (cur .entry)) «cur_shape») (valueOf (now (after .entry)) «after_shape») («cur_shape» .width) from count) (now (out .entry))) (now (out .entry)) ⌝ }
+    ensures { λ r. ⌜ r ≡ bandNo rows «before_shape» (length (now (before .entry))) «cur_shape» (length (now (cur .entry))) «after_shape» (length (now (after .entry))) from count (length (now (out .entry))) ⌝ }
+    ensures { λ _. ⌜ now (out .exit) ≡ written (bandNo rows «before_shape» (length (now (before .entry))) «cur_shape» (length (now (cur .entry))) «after_shape» (length (now (after .entry))) from count (length (now (out .entry)))) (over (bandOf quality rows (valueOf (now (before .entry)) «before_shape») (valueOf (now (cur .entry)) «cur_shape») (valueOf (now (after .entry)) «after_shape») («cur_shape» .width) from count) (now (out .entry))) (now (out .entry)) ⌝ }
 {
-    let inside = (from as usize) + (count as usize) <= cur_shape.height as usize;
+    let inside = (rows.first <= 1)
+        & (rows.mate <= 2)
+        & ((from as usize) + (count as usize) <= cur_shape.height as usize);
     let shapes = plane::good_shape(before_shape)
         & plane::good_shape(cur_shape)
         & plane::good_shape(after_shape);

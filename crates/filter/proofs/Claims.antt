@@ -1,14 +1,22 @@
 -- The claims of `specs/Claims.antt`, most of them laws under another name. Assumes nothing.
-use mathlib.Core.Path.{refl, sym, subst}
+use mathlib.Core.Path.{_≡_, refl, sym, subst, ap₂}
+use mathlib.Core.Bool.{Bool, true, _&&_}
+use Prim.Native.Nat.{ℕ, _≤_, zero-le}
+use borrow.Author.Tests.{le-leb}
+use lib.Dec.{leb, lit≤}
 use Rattle.laws.specs.Refusal.{rising}
 use Rattle.laws.proofs.Claims.{lowest-says}
 use Rattle.float.specs.Bounds.{Unit}
+use Rattle.field.specs.declared.Chosen.{Chosen}
+use Rattle.field.specs.declared.Chosen.the-variants as chosen
+use Rattle.field.specs.declared.Parity.the-variants as parity
+use Rattle.filter.specs.Rows.{firstRowOr}
 use Rattle.filter.specs.declared.Quality.the-variants.{Weave}
 use Rattle.filter.specs.declared.Edged.the-variants as edged
-use Rattle.filter.specs.Claims.{PlaneIsReadable, MadeInUnit, ShownIsOwn, WeaveTakesMate, EndsOrdered, EdgeInReach, EdgeSays, SampleSays, OneEdged}
+use Rattle.filter.specs.Claims.{PlaneIsReadable, MadeInUnit, ShownIsOwn, WeaveTakesMate, EndsOrdered, EdgeInReach, EdgeIsEarliestLeast, ScoresCompare, EdgeSays, SampleSays, OutputRowsGood, FieldRowsGood, OneEdged}
 use Rattle.filter.proofs.Sizes as sizes
 use Rattle.filter.proofs.Samples.{woven-mate, woven-own, shown-own, missing-made}
-use Rattle.filter.proofs.Slants.{edge-within}
+use Rattle.filter.proofs.Slants as tries
 
 pub plane-is-readable : PlaneIsReadable
 plane-is-readable = sizes.plane-is-readable
@@ -27,7 +35,13 @@ pub ends-ordered : EndsOrdered
 ends-ordered = sizes.ends-ordered
 
 pub edge-in-reach : EdgeInReach
-edge-in-reach = edge-within
+edge-in-reach = tries.edge-within
+
+pub edge-is-earliest-least : EdgeIsEarliestLeast
+edge-is-earliest-least = tries.edge-is-earliest-least
+
+pub scores-compare : ScoresCompare
+scores-compare = sizes.scores-compare
 
 pub edge-says : EdgeSays
 unfolding rising
@@ -36,6 +50,19 @@ edge-says s bytes x y = lowest-says _ tt
 pub sample-says : SampleSays
 unfolding rising
 sample-says rows before before-bytes cur cur-bytes after after-bytes x y = lowest-says _ tt
+
+-- the first row of the field that was chosen, and another number where neither was
+first-good : (chosen : Chosen) (none most : ℕ) → 1 ≤ most → none ≤ most → leb (firstRowOr chosen none) most ≡ true
+first-good (chosen.Field parity.Top) none most some few = le-leb 0 most zero-le
+first-good (chosen.Field parity.Bottom) none most some few = le-leb 1 most some
+first-good chosen.Neither none most some few = le-leb none most few
+
+pub output-rows-good : OutputRowsGood
+output-rows-good output = ap₂ (λ (a b : Bool). a && b) (first-good (output .field) 0 1 (lit≤ tt) (lit≤ tt)) (first-good (output .weave) 2 2 (lit≤ tt) (lit≤ tt))
+
+pub field-rows-good : FieldRowsGood
+field-rows-good parity.Top = refl
+field-rows-good parity.Bottom = refl
 
 pub one-edged : OneEdged
 one-edged (edged.Slant j) (edged.Slant k) e v = cc

@@ -1,6 +1,7 @@
 -- The laws that later crates cite, what the functions' proofs share, and the claims. Assumes nothing.
 pub mod Offsets
 pub mod Slants
+pub mod Motion
 pub mod Samples
 pub mod Places
 pub mod Sizes

@@ -6,22 +6,25 @@ use mathlib.Core.Bool.{Bool, true, false, cond, true≢false}
 use mathlib.Core.List.{List}
 use native.Mathlib.Nat.{le-trans, div-le-self}
 use native.Mathlib.Omega.{arith}
-use lib.Dec.{T, leb, lit≤}
-use lib.IntN.{ℤ, _+ℤ_, _-ℤ_}
+use lib.Dec.{T, leb, eqb, lit≤}
+use lib.IntN.{ℤ, natAbs, _+ℤ_, _-ℤ_}
 use lib.ListN.{getD}
 use lib.Pow.{pow-mono}
-use lib.Ieee.{Float, binary32, add, sub, le, ofBits}
+use lib.Ieee.{Float, binary32, add, sub, lt, le, ofBits}
+use lib.Ieee.Scale.{finite}
 use Rattle.float.specs.Bounds.{Small, Away, NotNegative, Unit}
 use Rattle.float.proofs.Small.{small-abs, small-min, small-max, small-clamp, small-add, small-sub, small-mul, small-div, small-more, small-zero, small-finite, small-whole, away-whole}
+use Rattle.float.proofs.Order.{le-of-not-lt}
+use Rattle.float.proofs.Chain.{lt-of-not-le}
 use Rattle.float.proofs.Range.{not-negative-zero, not-negative-max, unit-clamp}
 use Rattle.float.proofs.Ends.{ends-in-order}
 use Rattle.plane.specs.declared.Shape.{Shape}
 use Rattle.plane.specs.Plane.{startOf, storedAt, codeOf, fullCode, valueOf}
 use Rattle.filter.specs.declared.Quality.{Quality}
 use Rattle.filter.specs.declared.Quality.the-variants.{Weave, Bob, Yadif, Bwdif}
-use Rattle.filter.specs.Filter.{Sampler, one, halfF, nineF, sixteenF, gapOf, bobOf, averageOf, changesOf, outsideOf, movedOf, heldOf, inMotionOf, nearOf, farOf, yadifOf, cubicOf, bwdifOf, madeOf, edgeOf}
+use Rattle.filter.specs.Filter.{Sampler, one, halfF, nineF, sixteenF, slantBias, acrossOf, scoreOf, slantedOf, meanOf, gapOf, widerOf, beyondOf, bobOf, heldOf, averageOf, changeOf, aboveOf, belowOf, outsideOf, movedOf, inMotionOf, nearOf, farOf, yadifOf, cubicOf, bwdifOf, madeOf, edgeOf}
 use Rattle.filter.specs.Rows.{weaves}
-use Rattle.filter.specs.Claims.{Readable, averageAt, movedAt}
+use Rattle.filter.specs.Claims.{Readable, wholeScore}
 
 -- ---- numbers
 small-half : Small 0 halfF
@@ -41,18 +44,22 @@ small-gap : {a b : Float} → Small 16 a → Small 16 b → Small 17 (gapOf a b)
 unfolding gapOf
 small-gap p q = small-abs (small-sub p q tt)
 
-small-average : {before after : Float} → Small 16 before → Small 16 after → Small 17 (averageOf before after)
-unfolding averageOf
-small-average p q = small-mul (small-add p q tt) small-half tt
+small-mean : {a b : Float} → Small 16 a → Small 16 b → Small 17 (meanOf a b)
+unfolding meanOf
+small-mean p q = small-mul (small-add p q tt) small-half tt
 
-small-outside : {average c e : Float} → Small 17 average → Small 16 c → Small 16 e → Small 18 (outsideOf average c e)
-unfolding outsideOf
-small-outside p q r =
+small-wider : {a b c : Float} → Small 16 a → Small 16 b → Small 16 c → Small 17 (widerOf a b c)
+unfolding widerOf
+small-wider p q r = small-max (small-gap p r) (small-gap q r)
+
+small-beyond : {v c e : Float} → Small 17 v → Small 16 c → Small 16 e → Small 18 (beyondOf v c e)
+unfolding beyondOf
+small-beyond p q r =
     small-max (small-max (small-sub (small-more 17 (small-min q r) tt) p tt) (small-sub p (small-more 17 (small-max q r) tt) tt)) (small-more 18 small-zero tt)
 
-outside-not-negative : (average c e : Float) → NotNegative (outsideOf average c e)
-unfolding outsideOf
-outside-not-negative average c e = not-negative-max _ not-negative-zero
+beyond-not-negative : (v c e : Float) → NotNegative (beyondOf v c e)
+unfolding beyondOf
+beyond-not-negative v c e = not-negative-max _ not-negative-zero
 
 held-in-unit : {along average moved : Float} → Small 24 along → Small 17 average → Small 18 moved → Unit (heldOf along average moved)
 unfolding heldOf
@@ -66,27 +73,37 @@ small-cubic p q = small-more 24 (small-div (small-sub (small-mul small-nine p tt
 
 -- ---- of samplers
 module _ (before cur after : Sampler) (b : Readable before) (c : Readable cur) (a : Readable after) (x y : ℤ) where
-  small-moved : Small 18 (movedAt before cur after x y)
-  unfolding changesOf movedOf
+  small-average : Small 17 (averageOf before cur after x y)
+  unfolding averageOf
+  small-average = small-mean (b x y) (a x y)
+
+  small-outside : Small 18 (outsideOf before cur after x y)
+  unfolding outsideOf
+  small-outside = small-beyond small-average (c x (y -ℤ one)) (c x (y +ℤ one))
+
+  small-moved : Small 18 (movedOf before cur after x y)
+  unfolding changeOf aboveOf belowOf movedOf
   small-moved =
       let up = y -ℤ one in
       let down = y +ℤ one in
-      let above = small-max (small-gap (b x up) (c x up)) (small-gap (a x up) (c x up)) in
-      let below = small-max (small-gap (b x down) (c x down)) (small-gap (a x down) (c x down)) in
-      let changes = small-max (small-max (small-gap (b x y) (a x y)) above) below in
-      small-max (small-more 18 (small-mul changes small-half tt) tt) (small-outside (small-average (b x y) (a x y)) (c x up) (c x down))
+      let above = small-wider (b x up) (a x up) (c x up) in
+      let below = small-wider (b x down) (a x down) (c x down) in
+      let largest = small-max (small-max (small-gap (b x y) (a x y)) above) below in
+      small-max (small-more 18 (small-mul largest small-half tt) tt) small-outside
 
-  moved-not-negative : NotNegative (movedAt before cur after x y)
-  unfolding movedOf
-  moved-not-negative = not-negative-max _ (outside-not-negative _ _ _)
+  moved-not-negative : NotNegative (movedOf before cur after x y)
+  unfolding movedOf outsideOf
+  moved-not-negative = not-negative-max _ (beyond-not-negative _ _ _)
 
   pub ends-ordered :
-      T (le (sub binary32 (averageAt before after x y) (movedAt before cur after x y)) (add binary32 (averageAt before after x y) (movedAt before cur after x y)))
-  ends-ordered = ends-in-order _ _ (small-finite (small-average (b x y) (a x y))) (small-finite small-moved) moved-not-negative
+      T
+      (le (sub binary32 (averageOf before cur after x y) (movedOf before cur after x y))
+      (add binary32 (averageOf before cur after x y) (movedOf before cur after x y)))
+  ends-ordered = ends-in-order _ _ (small-finite small-average) (small-finite small-moved) moved-not-negative
 
   in-motion-in-unit : (along : Float) → Small 24 along → Unit (inMotionOf before cur after x y along)
   unfolding inMotionOf
-  in-motion-in-unit along p = held-in-unit p (small-average (b x y) (a x y)) small-moved
+  in-motion-in-unit along p = held-in-unit p small-average small-moved
 
   small-near : (j : ℤ) → Small 17 (nearOf cur x y j)
   unfolding nearOf
@@ -114,6 +131,39 @@ module _ (before cur after : Sampler) (b : Readable before) (c : Readable cur) (
   made-in-unit Bob w = bob-in-unit
   made-in-unit Yadif w = yadif-in-unit
   made-in-unit Bwdif w = bwdif-in-unit
+
+-- ---- of scores
+
+small-bias : Small 0 slantBias
+unfolding ofBits
+small-bias = record { bound = lit≤ tt }
+
+module _ (cur : Sampler) (c : Readable cur) (x y : ℤ) where
+  small-score : (j : ℤ) → Small 19 (scoreOf cur x y j)
+  unfolding scoreOf acrossOf
+  small-score j = small-add (small-add (small-gap (c _ _) (c _ _)) (small-gap (c _ _) (c _ _)) tt) (small-more 18 (small-gap (c _ _) (c _ _)) tt) tt
+
+  small-slanted : (j : ℤ) → natAbs j ≤ 2 → Small 20 (slantedOf cur x y j)
+  unfolding slantedOf
+  small-slanted j few = small-add (small-score j) (small-more 19 (small-mul small-bias (small-whole 1 (natAbs j) few tt) tt) tt) tt
+
+  finite-score : (j : ℤ) → natAbs j ≤ 2 → T (finite (wholeScore cur x y j))
+  finite-score j few = go (eqb (natAbs j) 0)
+    where
+      go : (b : Bool) → T (finite (cond b (scoreOf cur x y j) (slantedOf cur x y j)))
+      go true = small-finite (small-score j)
+      go false = small-finite (small-slanted j few)
+
+  pub scores-compare :
+      (i j : ℤ) →
+      natAbs i ≤ 2 →
+      natAbs j ≤ 2 →
+      (lt (wholeScore cur x y i) (wholeScore cur x y j) ≡ false → T (le (wholeScore cur x y j) (wholeScore cur x y i)))
+      × (le (wholeScore cur x y i) (wholeScore cur x y j) ≡ false → T (lt (wholeScore cur x y j) (wholeScore cur x y i)))
+  scores-compare i j few-i few-j =
+      let a = finite-score i few-i in
+      let b = finite-score j few-j in
+      (le-of-not-lt _ _ a b, λ h. lt-of-not-le _ _ b a h)
 
 -- ---- of a plane
 stored-small : (bytes : List ℕ) → ((i : ℕ) → getD bytes i 0 < 256) → (depth i : ℕ) → storedAt bytes depth i ≤ 2 ^ 16

@@ -13,6 +13,7 @@ use Rattle.plane.specs.Answer.{atTests}
 use Rattle.filter.specs.declared.Rows.{Rows}
 use Rattle.filter.specs.declared.Edged.{Edged}
 use Rattle.filter.specs.declared.Edged.the-variants as edged
+use Rattle.filter.specs.Rows.{goodRows}
 
 -- An answer by its cases: a slant is number 0 and that slant, a refusal its number and no slant.
 abbrev pub edgedNo : Edged → ℕ
@@ -34,7 +35,7 @@ edgeNo s bytes x y = lowest (edgeTests s bytes x y)
 -- 6: a lent plane, of so many bytes, is shorter than its shape needs.
 abbrev pub sampleTests : Rows → Shape → ℕ → Shape → ℕ → Shape → ℕ → ℤ → ℤ → List (ℕ × Bool)
 sampleTests rows before before-bytes cur cur-bytes after after-bytes x y =
-    (3, leb (rows .first) 1 && leb (rows .mate) 2 && inReach x && inReach y)
+    (3, goodRows rows && inReach x && inReach y)
     ∷ (4, goodShape before && goodShape cur && goodShape after)
     ∷ (5, agree cur before && agree cur after)
     ∷ (6, leb (planeBytes before) before-bytes && leb (planeBytes cur) cur-bytes && leb (planeBytes after) after-bytes)

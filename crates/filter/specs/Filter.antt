@@ -35,45 +35,64 @@ sixteenF = ofBits binary32 0x4180_0000
 abbrev pub slantBias : Float
 slantBias = ofBits binary32 0x3b03_126f
 
+-- ---- of two or three values
+
+-- (a + b) * 0.5
+unfoldable pub meanOf : Float → Float → Float
+meanOf a b = mul binary32 (add binary32 a b) halfF
+
 -- |a - b|
 unfoldable pub gapOf : Float → Float → Float
 gapOf a b = absOf (sub binary32 a b)
+
+-- the larger of |a - c|, |b - c|
+unfoldable pub widerOf : Float → Float → Float → Float
+widerOf a b c = maxOf (gapOf a c) (gapOf b c)
+
+-- how far v lies outside c and e: the largest of min(c, e) - v, v - max(c, e), 0
+unfoldable pub beyondOf : Float → Float → Float → Float
+beyondOf v c e = maxOf (maxOf (sub binary32 (minOf c e) v) (sub binary32 v (maxOf c e))) zeroF
 
 -- ---- Bob: half of (row above + row below), clamped to 0..1
 
 unfoldable pub bobOf : Sampler → ℤ → ℤ → Float
 bobOf cur x y = clampOf (mul binary32 (add binary32 (cur x (y -ℤ one)) (cur x (y +ℤ one))) halfF) zeroF oneF
 
--- ---- Motion, of the values that it reads: those of before and after at the row, one row up and one row down, and c and e of cur, one row
--- up and one row down
-
--- average = (before + after) * 0.5
-unfoldable pub averageOf : Float → Float → Float
-averageOf before after = mul binary32 (add binary32 before after) halfF
-
--- change = |before - after|; above = larger of |before - c|, |after - c| one row up; below likewise with e
-unfoldable pub changesOf : Float → Float → Float → Float → Float → Float → Float → Float → Float
-changesOf before after before-up after-up before-down after-down c e =
-    maxOf (maxOf (gapOf before after) (maxOf (gapOf before-up c) (gapOf after-up c))) (maxOf (gapOf before-down e) (gapOf after-down e))
-
--- outside = largest of min(c, e) - average, average - max(c, e), 0
-unfoldable pub outsideOf : Float → Float → Float → Float
-outsideOf average c e = maxOf (maxOf (sub binary32 (minOf c e) average) (sub binary32 average (maxOf c e))) zeroF
-
--- moved = larger of outside and half the largest of change, above, below
-unfoldable pub movedOf : Float → Float → Float → Float → Float → Float → Float → Float → Float
-movedOf before after before-up after-up before-down after-down c e =
-    maxOf (mul binary32 (changesOf before after before-up after-up before-down after-down c e) halfF) (outsideOf (averageOf before after) c e)
+-- ---- Motion
 
 -- clamped to average - moved .. average + moved, then 0..1
 unfoldable pub heldOf : Float → Float → Float → Float
 heldOf along average moved = clampOf (clampOf along (sub binary32 average moved) (add binary32 average moved)) zeroF oneF
 
--- a value held by the motion at a place
-unfoldable pub inMotionOf : Sampler → Sampler → Sampler → ℤ → ℤ → Float → Float
-inMotionOf before cur after x y along =
-    heldOf along (averageOf (before x y) (after x y))
-    (movedOf (before x y) (after x y) (before x (y -ℤ one)) (after x (y -ℤ one)) (before x (y +ℤ one)) (after x (y +ℤ one)) (cur x (y -ℤ one)) (cur x (y +ℤ one)))
+-- at column x of the missing row y
+module _ (before cur after : Sampler) (x y : ℤ) where
+  -- average = (before + after) * 0.5
+  unfoldable pub averageOf : Float
+  averageOf = meanOf (before x y) (after x y)
+
+  -- change = |before - after|
+  unfoldable pub changeOf : Float
+  changeOf = gapOf (before x y) (after x y)
+
+  -- above = larger of |before - c|, |after - c| one row up, c being cur there
+  unfoldable pub aboveOf : Float
+  aboveOf = widerOf (before x (y -ℤ one)) (after x (y -ℤ one)) (cur x (y -ℤ one))
+
+  -- below likewise with e, one row down
+  unfoldable pub belowOf : Float
+  belowOf = widerOf (before x (y +ℤ one)) (after x (y +ℤ one)) (cur x (y +ℤ one))
+
+  -- outside = largest of min(c, e) - average, average - max(c, e), 0
+  unfoldable pub outsideOf : Float
+  outsideOf = beyondOf averageOf (cur x (y -ℤ one)) (cur x (y +ℤ one))
+
+  -- moved = larger of outside and half the largest of change, above, below
+  unfoldable pub movedOf : Float
+  movedOf = maxOf (mul binary32 (maxOf (maxOf changeOf aboveOf) belowOf) halfF) outsideOf
+
+  -- a value held by the motion there
+  unfoldable pub inMotionOf : Float → Float
+  inMotionOf along = heldOf along averageOf movedOf
 
 -- ---- Edge
 

@@ -1,6 +1,7 @@
 -- Which rows are shown (document 01, "Rows a field lacks" and "Colour and comb": no field means first 0, no mate means 2). Assumes nothing.
 use Prim.Native.Nat.{ℕ}
-use mathlib.Core.Bool.{Bool, true, false}
+use mathlib.Core.Bool.{Bool, true, false, _&&_}
+use lib.Dec.{leb}
 use Rattle.field.specs.declared.Output.{Output}
 use Rattle.field.specs.declared.Chosen.{Chosen}
 use Rattle.field.specs.declared.Chosen.the-variants as chosen
@@ -23,6 +24,10 @@ firstRowOr chosen.Neither none = none
 
 abbrev pub rowsOf : Output → Rows
 rowsOf output = record { first = firstRowOr (output .field) 0; mate = firstRowOr (output .weave) 2 }
+
+-- `first` is 0 or 1, and `mate` 0, 1 or 2.
+abbrev pub goodRows : Rows → Bool
+goodRows rows = leb (rows .first) 1 && leb (rows .mate) 2
 
 -- one field alone
 abbrev pub fieldRowsOf : ℕ → Rows

@@ -12,7 +12,7 @@ ghost use Rattle.laws.specs.Refusal.{whenDone};
 ghost use Rattle.plane.specs.Plane.{valueOf};
 ghost use Rattle.plane.specs.Coordinates.{parityOf, unbiased};
 ghost use Rattle.plane.specs.Answer.{sampledNo, sampledValues};
-ghost use Rattle.filter.specs.Filter.{gapOf, bobOf, averageOf, changesOf, outsideOf, movedOf, heldOf, inMotionOf, acrossOf, scoreOf, slantedOf, betterOf, edgeOf, nearOf, farOf, yadifOf, cubicOf, bwdifOf, madeOf, sampleOf};
+ghost use Rattle.filter.specs.Filter.{meanOf, gapOf, widerOf, beyondOf, bobOf, heldOf, inMotionOf, acrossOf, scoreOf, slantedOf, betterOf, edgeOf, nearOf, farOf, yadifOf, cubicOf, bwdifOf, madeOf, sampleOf};
 ghost use Rattle.filter.specs.Rows.{weaves, firstRowOr, rowsOf, fieldRowsOf};
 ghost use Rattle.filter.specs.Held.{Room, step, seen};
 ghost use Rattle.filter.specs.Answer.{edgedNo, edgedValues, edgeNo, sampleNo};
@@ -94,61 +94,24 @@ fn bob(cur: &[u8], s: plane::Shape, x: u32, y: u32) -> f32
 // is the row. Else the value may lie as far from it as something moved, and in any case far enough to
 // come between the rows above and below.
 
-fn average_of(before: f32, after: f32) -> f32
-    ensures { λ r. ⌜ r ≡ averageOf before after ⌝ }
+fn mean(a: f32, b: f32) -> f32
+    ensures { λ r. ⌜ r ≡ meanOf a b ⌝ }
 {
-    (before + after) * 0.5
+    (a + b) * 0.5
 }
 
-fn changes_of(
-    before: f32,
-    after: f32,
-    before_up: f32,
-    after_up: f32,
-    before_down: f32,
-    after_down: f32,
-    c: f32,
-    e: f32,
-) -> f32
-    ensures { λ r. ⌜ r ≡ changesOf before after «before_up» «after_up» «before_down» «after_down» c e ⌝ }
+fn wider(a: f32, b: f32, c: f32) -> f32
+    ensures { λ r. ⌜ r ≡ widerOf a b c ⌝ }
 {
-    let change = gap(before, after);
-    let above = float::max(gap(before_up, c), gap(after_up, c));
-    let below = float::max(gap(before_down, e), gap(after_down, e));
-    float::max(float::max(change, above), below)
+    float::max(gap(a, c), gap(b, c))
 }
 
-fn outside_of(average: f32, c: f32, e: f32) -> f32
-    ensures { λ r. ⌜ r ≡ outsideOf average c e ⌝ }
+fn beyond(v: f32, c: f32, e: f32) -> f32
+    ensures { λ r. ⌜ r ≡ beyondOf v c e ⌝ }
 {
-    let under = float::min(c, e) - average;
-    let over = average - float::max(c, e);
+    let under = float::min(c, e) - v;
+    let over = v - float::max(c, e);
     float::max(float::max(under, over), 0.0)
-}
-
-fn moved_of(
-    before: f32,
-    after: f32,
-    before_up: f32,
-    after_up: f32,
-    before_down: f32,
-    after_down: f32,
-    c: f32,
-    e: f32,
-) -> f32
-    ensures { λ r. ⌜ r ≡ movedOf before after «before_up» «after_up» «before_down» «after_down» c e ⌝ }
-{
-    let changes = changes_of(
-        before,
-        after,
-        before_up,
-        after_up,
-        before_down,
-        after_down,
-        c,
-        e,
-    );
-    float::max(changes * 0.5, outside_of(average_of(before, after), c, e))
 }
 
 fn hold(along: f32, average: f32, moved: f32) -> f32
@@ -179,17 +142,23 @@ fn in_motion(
     let down = y + 1;
     let earlier = plane::value_at(before, before_shape, x, y);
     let later = plane::value_at(after, after_shape, x, y);
-    let moved = moved_of(
-        earlier,
-        later,
+    let c = plane::value_at(cur, cur_shape, x, up);
+    let e = plane::value_at(cur, cur_shape, x, down);
+    let average = mean(earlier, later);
+    let change = gap(earlier, later);
+    let above = wider(
         plane::value_at(before, before_shape, x, up),
         plane::value_at(after, after_shape, x, up),
+        c,
+    );
+    let below = wider(
         plane::value_at(before, before_shape, x, down),
         plane::value_at(after, after_shape, x, down),
-        plane::value_at(cur, cur_shape, x, up),
-        plane::value_at(cur, cur_shape, x, down),
+        e,
     );
-    hold(along, average_of(earlier, later), moved)
+    let outside = beyond(average, c, e);
+    let half = float::max(float::max(change, above), below) * 0.5;
+    hold(along, average, float::max(half, outside))
 }
 
 // ---- Edge: a slant j of -2 to 2 is held as j + 2, and so is the k of a score. So the column x + k + j is

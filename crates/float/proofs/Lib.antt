@@ -1,5 +1,6 @@
 -- The laws that later crates cite, and what the functions' proofs share. Assumes nothing.
 pub mod Order
+pub mod Chain
 pub mod Rounded
 pub mod Small
 pub mod Range

@@ -14,6 +14,8 @@ use Rattle.plane.specs.declared.Shape.{Shape}
 use Rattle.plane.specs.Plane.{goodShape, planeBytes, agree, half, chromaAgrees}
 use Rattle.plane.proofs.Coordinates.{both-inside}
 use Rattle.plane.proofs.Bounds.{good-within}
+use Rattle.filter.specs.declared.Rows.{Rows}
+use Rattle.filter.specs.Rows.{goodRows}
 use Rattle.colour.specs.declared.Conversion.{Conversion}
 use Rattle.colour.specs.Colour.{goodConversion}
 use Rattle.fill.specs.Band.{bandNo}
@@ -22,12 +24,12 @@ use Rattle.picture.specs.Inner.{Three, Ready}
 
 -- ---- a band of planes that were judged
 pub band-done :
-    {before : Shape} {before-bytes : ℕ} {cur : Shape} {cur-bytes : ℕ} {after : Shape} {after-bytes : ℕ} (from count room : ℕ) →
-    Three before before-bytes cur cur-bytes after after-bytes → from + count ≤ cur .height → count * cur .width ≤ room →
-    bandNo before before-bytes cur cur-bytes after after-bytes from count room ≡ 0
+    {rows : Rows} {before : Shape} {before-bytes : ℕ} {cur : Shape} {cur-bytes : ℕ} {after : Shape} {after-bytes : ℕ} (from count room : ℕ) →
+    Three rows before before-bytes cur cur-bytes after after-bytes → from + count ≤ cur .height → count * cur .width ≤ room →
+    bandNo rows before before-bytes cur cur-bytes after after-bytes from count room ≡ 0
 unfolding lowest
-band-done {before} {before-bytes} {cur} {cur-bytes} {after} {after-bytes} from count room t inside fits =
-    simp (le-leb (from + count) (cur .height) inside, t .shapes, t .alike, t .whole, le-leb (count * cur .width) room fits)
+band-done {rows} {before} {before-bytes} {cur} {cur-bytes} {after} {after-bytes} from count room t inside fits =
+    simp (t .asked, le-leb (from + count) (cur .height) inside, t .shapes, t .alike, t .whole, le-leb (count * cur .width) room fits)
 
 -- what a frame that serves has is what serves of the three
 pub served-has : {A B : Type 0} (f : A → B) (s : Source) (previous current following : A) → served s (f previous) (f current) (f following) ≡ f (served s previous current following)
@@ -41,10 +43,10 @@ done-written {A} {n} {x} {y} old z e = e ∙ ap (λ (k : ℕ). written k y old) 
 
 -- of three frames, the three planes that serve
 pub three-served :
-    (shape : Frame → Shape) (bytes : Frame → ℕ) (before after : Source) (previous current following : Frame) →
-    Three (shape (served before previous current following)) (bytes (served before previous current following)) (shape current) (bytes current)
+    {rows : Rows} (shape : Frame → Shape) (bytes : Frame → ℕ) (before after : Source) (previous current following : Frame) →
+    Three rows (shape (served before previous current following)) (bytes (served before previous current following)) (shape current) (bytes current)
     (shape (served after previous current following)) (bytes (served after previous current following)) →
-    Three (served before (shape previous) (shape current) (shape following)) (served before (bytes previous) (bytes current) (bytes following)) (shape current)
+    Three rows (served before (shape previous) (shape current) (shape following)) (served before (bytes previous) (bytes current) (bytes following)) (shape current)
     (bytes current) (served after (shape previous) (shape current) (shape following)) (served after (bytes previous) (bytes current) (bytes following))
 three-served shape bytes source.Previous source.Previous previous current following t = t
 three-served shape bytes source.Previous source.Current previous current following t = t
@@ -132,24 +134,28 @@ both : {a b : Bool} → a ≡ true → b ≡ true → (a && b) ≡ true
 both {a} {b} p q = ap₂ (λ (x y : Bool). x && y) p q
 
 three :
-    {before : Shape} {before-bytes : ℕ} {cur : Shape} {cur-bytes : ℕ} {after : Shape} {after-bytes : ℕ} →
-    Fits before before-bytes cur → Fits cur cur-bytes cur → Fits after after-bytes cur → Three before before-bytes cur cur-bytes after after-bytes
-three b c a = record {
+    {rows : Rows} {before : Shape} {before-bytes : ℕ} {cur : Shape} {cur-bytes : ℕ} {after : Shape} {after-bytes : ℕ} →
+    goodRows rows ≡ true → Fits before before-bytes cur → Fits cur cur-bytes cur → Fits after after-bytes cur →
+    Three rows before before-bytes cur cur-bytes after after-bytes
+three g b c a = record {
+  asked = g;
   shapes = both (both (b .good) (c .good)) (a .good);
   alike = both (b .same) (a .same);
   whole = both (both (b .whole) (c .whole)) (a .whole);
 }
 
-ready : (before cur after : Frame) → Serves before cur → Serves cur cur → Serves after cur → chromaFits (cur .shapes) ≡ true → Ready before cur after
-ready before cur after b c a chroma =
+ready :
+    (rows : Rows) (before cur after : Frame) → goodRows rows ≡ true → Serves before cur → Serves cur cur → Serves after cur → chromaFits (cur .shapes) ≡ true →
+    Ready rows before cur after
+ready rows before cur after g b c a chroma =
     let bounds = good-within (cur .shapes .luma) (c .luma .good) in
     let chromas = both-inside (chromaAgrees (cur .shapes .luma) (cur .shapes .cb)) (chromaAgrees (cur .shapes .luma) (cur .shapes .cr)) chroma in
     let cb-halved = chroma-alike (cur .shapes .luma) (cur .shapes .cb) (chromas .0) in
     let cr-halved = chroma-alike (cur .shapes .luma) (cur .shapes .cr) (chromas .1) in
     record {
-      luma = three (b .luma) (c .luma) (a .luma);
-      cb = three (b .cb) (c .cb) (a .cb);
-      cr = three (b .cr) (c .cr) (a .cr);
+      luma = three g (b .luma) (c .luma) (a .luma);
+      cb = three g (b .cb) (c .cb) (a .cb);
+      cr = three g (b .cr) (c .cr) (a .cr);
       width-high = bounds .width-most;
       height-high = bounds .height-most;
       cb-width = cb-halved .width;
@@ -160,8 +166,10 @@ ready before cur after b c a chroma =
 
 -- ---- the whole call
 module _ (conversion : Conversion) (previous current following : Frame) (room : ℕ) (done : pictureNo conversion previous current following room ≡ 0) where
-  pub judged : (before after : Source) → Ready (served before previous current following) current (served after previous current following)
-  judged before after =
+  pub judged :
+      (rows : Rows) → goodRows rows ≡ true → (before after : Source) →
+      Ready rows (served before previous current following) current (served after previous current following)
+  judged rows asked before after =
       let past-shapes = rest-passes 4 _ _ (lit< tt) done in
       let past-sizes = rest-passes 5 _ _ (lit< tt) past-shapes in
       let goods = both-inside _ (goodShapes (following .shapes)) (first-passes 4 _ _ (lit< tt) done) in
@@ -176,7 +184,7 @@ module _ (conversion : Conversion) (previous current following : Frame) (room : 
       let p = serves previous current (two-goods .0) (same .0) (one-fits .1) (two-fits .1) (two-lents .0) in
       let c = serves current current (two-goods .1) self (two-fits .1) (two-fits .1) (two-lents .1) in
       let f = serves following current (goods .1) (same .1) (fits .1) (two-fits .1) (lents .1) in
-      ready _ current _ (any-serves before previous current following p c f) c (any-serves after previous current following p c f) (two-fits .1)
+      ready rows _ current _ asked (any-serves before previous current following p c f) c (any-serves after previous current following p c f) (two-fits .1)
 
   pub has-room : current .shapes .luma .height * (current .shapes .luma .width * 4) ≤ room
   has-room = leb-true _ room (first-passes 7 _ _ (lit< tt) (rest-passes 6 _ _ (lit< tt) (rest-passes 5 _ _ (lit< tt) (rest-passes 4 _ _ (lit< tt) done))))

@@ -68,7 +68,7 @@ module _ (conversion : Conversion) (quality : Quality) (rows : Rows) (before cur
       ap (λ (s : List Float). cut s width y) e ∙ cut-row (λ (n : ℕ). lineOf quality rows b c a width (from + n)) width (λ n. length-listed width _) count y _ l
 
   pub group-rows :
-      (from count : ℕ) (luma cb cr old-luma old-cb old-cr : List Float) → Ready before cur after → from % 2 ≡ 0 →
+      (from count : ℕ) (luma cb cr old-luma old-cb old-cr : List Float) → Ready rows before cur after → from % 2 ≡ 0 →
       luma ≡ over (bandOf quality rows (lumaIn before) (lumaIn cur) (lumaIn after) (cur .shapes .luma .width) from count) old-luma →
       cb ≡ over (bandOf quality rows (cbIn before) (cbIn cur) (cbIn after) (cur .shapes .cb .width) (from / 2) (half count)) old-cb →
       cr ≡ over (bandOf quality rows (crIn before) (crIn cur) (crIn after) (cur .shapes .cr .width) (from / 2) (half count)) old-cr →

@@ -9,24 +9,27 @@ use lib.Ieee.{Float, nan}
 use Rattle.laws.specs.Rows.{laid}
 use Rattle.plane.specs.declared.Shape.{Shape}
 use Rattle.plane.specs.Plane.{goodShape, planeBytes, agree, half}
+use Rattle.filter.specs.declared.Rows.{Rows}
+use Rattle.filter.specs.Rows.{goodRows}
 use Rattle.colour.specs.declared.Conversion.{Conversion}
 use Rattle.colour.specs.Colour.{convertedOf}
 use Rattle.picture.specs.Picture.{Frame, pixelOf}
 
 -- ---- what was judged before a row is made
 
--- three planes of which any band can be made that lies within and has room
-pub record Three (before : Shape) (before-bytes : ℕ) (cur : Shape) (cur-bytes : ℕ) (after : Shape) (after-bytes : ℕ) : Type 0 where
+-- rows that can be asked for, and three planes of which any band can be made that lies within and has room
+pub record Three (rows : Rows) (before : Shape) (before-bytes : ℕ) (cur : Shape) (cur-bytes : ℕ) (after : Shape) (after-bytes : ℕ) : Type 0 where
+  pub asked : goodRows rows ≡ true
   pub shapes : (goodShape before && goodShape cur && goodShape after) ≡ true
   pub alike : (agree before cur && agree after cur) ≡ true
   pub whole : (leb (planeBytes before) before-bytes && leb (planeBytes cur) cur-bytes && leb (planeBytes after) after-bytes) ≡ true
 
 -- three frames of such planes, with chroma of half size
-pub record Ready (before cur after : Frame) : Type 0 where
+pub record Ready (rows : Rows) (before cur after : Frame) : Type 0 where
   pub luma :
-      Three (before .shapes .luma) (length (before .luma)) (cur .shapes .luma) (length (cur .luma)) (after .shapes .luma) (length (after .luma))
-  pub cb : Three (before .shapes .cb) (length (before .cb)) (cur .shapes .cb) (length (cur .cb)) (after .shapes .cb) (length (after .cb))
-  pub cr : Three (before .shapes .cr) (length (before .cr)) (cur .shapes .cr) (length (cur .cr)) (after .shapes .cr) (length (after .cr))
+      Three rows (before .shapes .luma) (length (before .luma)) (cur .shapes .luma) (length (cur .luma)) (after .shapes .luma) (length (after .luma))
+  pub cb : Three rows (before .shapes .cb) (length (before .cb)) (cur .shapes .cb) (length (cur .cb)) (after .shapes .cb) (length (after .cb))
+  pub cr : Three rows (before .shapes .cr) (length (before .cr)) (cur .shapes .cr) (length (cur .cr)) (after .shapes .cr) (length (after .cr))
   pub width-high : cur .shapes .luma .width ≤ 8192
   pub height-high : cur .shapes .luma .height ≤ 4352
   pub cb-width : cur .shapes .cb .width ≡ half (cur .shapes .luma .width)

@@ -123,7 +123,7 @@ fn samples(
     from: u16,
     count: u16,
 )
-    requires { ⌜ Three «before_shape» (length (now before)) «cur_shape» (length (now cur)) «after_shape» (length (now after)) ⌝ }
+    requires { ⌜ Three rows «before_shape» (length (now before)) «cur_shape» (length (now cur)) «after_shape» (length (now after)) ⌝ }
     requires { ⌜ (from + count ≤ «cur_shape» .height) × (count * «cur_shape» .width ≤ length (now out)) ⌝ }
     ensures { λ _. ⌜ now (out .exit) ≡ over (bandOf quality rows (valueOf (now (before .entry)) «before_shape») (valueOf (now (cur .entry)) «cur_shape») (valueOf (now (after .entry)) «after_shape») («cur_shape» .width) from count) (now (out .entry)) ⌝ }
 {
@@ -160,7 +160,7 @@ fn samples_with_after(
     from: u16,
     count: u16,
 )
-    requires { ⌜ Three «before_shape» (length (now before)) «current_shape» (length (now current)) (served after «previous_shape» «current_shape» «following_shape») (served after (length (now previous)) (length (now current)) (length (now following))) ⌝ }
+    requires { ⌜ Three rows «before_shape» (length (now before)) «current_shape» (length (now current)) (served after «previous_shape» «current_shape» «following_shape») (served after (length (now previous)) (length (now current)) (length (now following))) ⌝ }
     requires { ⌜ (from + count ≤ «current_shape» .height) × (count * «current_shape» .width ≤ length (now out)) ⌝ }
     ensures { λ _. ⌜ now (out .exit) ≡ over (bandOf quality rows (valueOf (now (before .entry)) «before_shape») (valueOf (now (current .entry)) «current_shape») (served after (valueOf (now (previous .entry)) «previous_shape») (valueOf (now (current .entry)) «current_shape») (valueOf (now (following .entry)) «following_shape»)) («current_shape» .width) from count) (now (out .entry)) ⌝ }
 {
@@ -228,7 +228,7 @@ fn samples_with(
     from: u16,
     count: u16,
 )
-    requires { ⌜ Three (served before «previous_shape» «current_shape» «following_shape») (served before (length (now previous)) (length (now current)) (length (now following))) «current_shape» (length (now current)) (served after «previous_shape» «current_shape» «following_shape») (served after (length (now previous)) (length (now current)) (length (now following))) ⌝ }
+    requires { ⌜ Three rows (served before «previous_shape» «current_shape» «following_shape») (served before (length (now previous)) (length (now current)) (length (now following))) «current_shape» (length (now current)) (served after «previous_shape» «current_shape» «following_shape») (served after (length (now previous)) (length (now current)) (length (now following))) ⌝ }
     requires { ⌜ (from + count ≤ «current_shape» .height) × (count * «current_shape» .width ≤ length (now out)) ⌝ }
     ensures { λ _. ⌜ now (out .exit) ≡ over (bandOf quality rows (served before (valueOf (now (previous .entry)) «previous_shape») (valueOf (now (current .entry)) «current_shape») (valueOf (now (following .entry)) «following_shape»)) (valueOf (now (current .entry)) «current_shape») (served after (valueOf (now (previous .entry)) «previous_shape») (valueOf (now (current .entry)) «current_shape») (valueOf (now (following .entry)) «following_shape»)) («current_shape» .width) from count) (now (out .entry)) ⌝ }
 {
@@ -316,7 +316,7 @@ fn paint_group(
     cb: &mut [f32],
     cr: &mut [f32],
 )
-    requires { ⌜ Ready (served before (frameOf previous (now («previous_luma»)) (now («previous_cb»)) (now («previous_cr»))) (frameOf current (now («current_luma»)) (now («current_cb»)) (now («current_cr»))) (frameOf following (now («following_luma»)) (now («following_cb»)) (now («following_cr»)))) (frameOf current (now («current_luma»)) (now («current_cb»)) (now («current_cr»))) (served after (frameOf previous (now («previous_luma»)) (now («previous_cb»)) (now («previous_cr»))) (frameOf current (now («current_luma»)) (now («current_cb»)) (now («current_cr»))) (frameOf following (now («following_luma»)) (now («following_cb»)) (now («following_cr»)))) ⌝ }
+    requires { ⌜ Ready rows (served before (frameOf previous (now («previous_luma»)) (now («previous_cb»)) (now («previous_cr»))) (frameOf current (now («current_luma»)) (now («current_cb»)) (now («current_cr»))) (frameOf following (now («following_luma»)) (now («following_cb»)) (now («following_cr»)))) (frameOf current (now («current_luma»)) (now («current_cb»)) (now («current_cr»))) (served after (frameOf previous (now («previous_luma»)) (now («previous_cb»)) (now («previous_cr»))) (frameOf current (now («current_luma»)) (now («current_cb»)) (now («current_cr»))) (frameOf following (now («following_luma»)) (now («following_cb»)) (now («following_cr»)))) ⌝ }
     requires { ⌜ (from % 2 ≡ 0) × (from + count ≤ current .luma .height) × (count ≤ 8) × (length (now out) ≡ count * (current .luma .width * 4)) ⌝ }
     requires { ⌜ Rooms (now luma) (now cb) (now cr) ⌝ }
     ensures { λ _. ⌜ now (out .exit) ≡ laid count (λ y. pixelRow conversion quality rows (served before (frameOf previous (now («previous_luma» .entry)) (now («previous_cb» .entry)) (now («previous_cr» .entry))) (frameOf current (now («current_luma» .entry)) (now («current_cb» .entry)) (now («current_cr» .entry))) (frameOf following (now («following_luma» .entry)) (now («following_cb» .entry)) (now («following_cr» .entry)))) (frameOf current (now («current_luma» .entry)) (now («current_cb» .entry)) (now («current_cr» .entry))) (served after (frameOf previous (now («previous_luma» .entry)) (now («previous_cb» .entry)) (now («previous_cr» .entry))) (frameOf current (now («current_luma» .entry)) (now («current_cb» .entry)) (now («current_cr» .entry))) (frameOf following (now («following_luma» .entry)) (now («following_cb» .entry)) (now («following_cr» .entry)))) (current .luma .width) (from + y)) ⌝ }
@@ -410,7 +410,7 @@ fn paint_groups(
     cb: &mut [f32],
     cr: &mut [f32],
 )
-    requires { ⌜ Ready (served before (frameOf previous (now («previous_luma»)) (now («previous_cb»)) (now («previous_cr»))) (frameOf current (now («current_luma»)) (now («current_cb»)) (now («current_cr»))) (frameOf following (now («following_luma»)) (now («following_cb»)) (now («following_cr»)))) (frameOf current (now («current_luma»)) (now («current_cb»)) (now («current_cr»))) (served after (frameOf previous (now («previous_luma»)) (now («previous_cb»)) (now («previous_cr»))) (frameOf current (now («current_luma»)) (now («current_cb»)) (now («current_cr»))) (frameOf following (now («following_luma»)) (now («following_cb»)) (now («following_cr»)))) ⌝ }
+    requires { ⌜ Ready rows (served before (frameOf previous (now («previous_luma»)) (now («previous_cb»)) (now («previous_cr»))) (frameOf current (now («current_luma»)) (now («current_cb»)) (now («current_cr»))) (frameOf following (now («following_luma»)) (now («following_cb»)) (now («following_cr»)))) (frameOf current (now («current_luma»)) (now («current_cb»)) (now («current_cr»))) (served after (frameOf previous (now («previous_luma»)) (now («previous_cb»)) (now («previous_cr»))) (frameOf current (now («current_luma»)) (now («current_cb»)) (now («current_cr»))) (frameOf following (now («following_luma»)) (now («following_cb»)) (now («following_cr»)))) ⌝ }
     requires { ⌜ current .luma .height * (current .luma .width * 4) ≤ length (now out) ⌝ }
     requires { ⌜ Rooms (now luma) (now cb) (now cr) ⌝ }
     ensures { λ _. ⌜ now (out .exit) ≡ over (pixelRows conversion quality rows (served before (frameOf previous (now («previous_luma» .entry)) (now («previous_cb» .entry)) (now («previous_cr» .entry))) (frameOf current (now («current_luma» .entry)) (now («current_cb» .entry)) (now («current_cr» .entry))) (frameOf following (now («following_luma» .entry)) (now («following_cb» .entry)) (now («following_cr» .entry)))) (frameOf current (now («current_luma» .entry)) (now («current_cb» .entry)) (now («current_cr» .entry))) (served after (frameOf previous (now («previous_luma» .entry)) (now («previous_cb» .entry)) (now («previous_cr» .entry))) (frameOf current (now («current_luma» .entry)) (now («current_cb» .entry)) (now («current_cr» .entry))) (frameOf following (now («following_luma» .entry)) (now («following_cb» .entry)) (now («following_cr» .entry))))) (now (out .entry)) ⌝ }
@@ -471,7 +471,7 @@ fn paint(
     following_cb: &[u8],
     following_cr: &[u8],
 )
-    requires { ⌜ Ready (served before (frameOf previous (now («previous_luma»)) (now («previous_cb»)) (now («previous_cr»))) (frameOf current (now («current_luma»)) (now («current_cb»)) (now («current_cr»))) (frameOf following (now («following_luma»)) (now («following_cb»)) (now («following_cr»)))) (frameOf current (now («current_luma»)) (now («current_cb»)) (now («current_cr»))) (served after (frameOf previous (now («previous_luma»)) (now («previous_cb»)) (now («previous_cr»))) (frameOf current (now («current_luma»)) (now («current_cb»)) (now («current_cr»))) (frameOf following (now («following_luma»)) (now («following_cb»)) (now («following_cr»)))) ⌝ }
+    requires { ⌜ Ready rows (served before (frameOf previous (now («previous_luma»)) (now («previous_cb»)) (now («previous_cr»))) (frameOf current (now («current_luma»)) (now («current_cb»)) (now («current_cr»))) (frameOf following (now («following_luma»)) (now («following_cb»)) (now («following_cr»)))) (frameOf current (now («current_luma»)) (now («current_cb»)) (now («current_cr»))) (served after (frameOf previous (now («previous_luma»)) (now («previous_cb»)) (now («previous_cr»))) (frameOf current (now («current_luma»)) (now («current_cb»)) (now («current_cr»))) (frameOf following (now («following_luma»)) (now («following_cb»)) (now («following_cr»)))) ⌝ }
     requires { ⌜ current .luma .height * (current .luma .width * 4) ≤ length (now out) ⌝ }
     ensures { λ _. ⌜ now (out .exit) ≡ over (pixelRows conversion quality rows (served before (frameOf previous (now («previous_luma» .entry)) (now («previous_cb» .entry)) (now («previous_cr» .entry))) (frameOf current (now («current_luma» .entry)) (now («current_cb» .entry)) (now («current_cr» .entry))) (frameOf following (now («following_luma» .entry)) (now («following_cb» .entry)) (now («following_cr» .entry)))) (frameOf current (now («current_luma» .entry)) (now («current_cb» .entry)) (now («current_cr» .entry))) (served after (frameOf previous (now («previous_luma» .entry)) (now («previous_cb» .entry)) (now («previous_cr» .entry))) (frameOf current (now («current_luma» .entry)) (now («current_cb» .entry)) (now («current_cr» .entry))) (frameOf following (now («following_luma» .entry)) (now («following_cb» .entry)) (now («following_cr» .entry))))) (now (out .entry)) ⌝ }
 {

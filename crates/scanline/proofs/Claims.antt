@@ -1,7 +1,14 @@
 -- The claims of specs/Claims.antt. Assumes nothing.
-use Rattle.scanline.specs.Claims.{OwnSays, BobSays, YadifSays, BwdifSays}
+use Rattle.laws.specs.Refusal.{rising}
+use Rattle.laws.proofs.Claims.{lowest-says}
+use Rattle.scanline.specs.Lines.{lineTests}
+use Rattle.scanline.specs.Claims.{LineSays, OwnSays, BobSays, YadifSays, BwdifSays}
 use Rattle.scanline.proofs.Columns.{at-here}
 use Rattle.scanline.proofs.Slants.{bob-same, yadif-same, bwdif-same}
+
+pub line-says : LineSays
+unfolding rising
+line-says width = lowest-says (lineTests width) tt
 
 pub own-says : OwnSays
 own-says row v width y h x l = at-here h x l

@@ -7,7 +7,8 @@ use native.Mathlib.Omega.{arith}
 use lib.IntN.{ℤ, pos, negsuc, subℕ, negℤ, natAbs, _+ℤ_, _-ℤ_, _*ℤ_}
 use lib.Ieee.{Float, binary32, add, mul, lt, ofInt, ofBits}
 use Rattle.float.specs.Float.{zeroF, oneF, clampOf}
-use Rattle.filter.specs.Filter.{Sampler, Slant, one, three, halfF, slantBias, gapOf, averageOf, movedOf, heldOf, inMotionOf, acrossOf, scoreOf, slantedOf, betterOf, bestOf, edgeOf, nearOf, farOf, cubicOf, bobOf, yadifOf, bwdifOf}
+use Rattle.filter.specs.Filter.{Sampler, Slant, one, three, halfF, slantBias, gapOf, inMotionOf, acrossOf, scoreOf, slantedOf, betterOf, bestOf, edgeOf, nearOf, farOf, cubicOf, bobOf, yadifOf, bwdifOf}
+use Rattle.filter.proofs.Motion.{same-motion}
 use Rattle.scanline.specs.declared.Pick.{Pick}
 use Rattle.scanline.specs.Rows.{RowOf, Around, Motion}
 use Rattle.scanline.specs.Lines.{twoF, scoreIn, sumIn, betterIn, triedIn, edgeIn, bobIn, motionIn, yadifIn, bwdifIn}
@@ -138,18 +139,11 @@ module _ {above below earlier-up earlier earlier-down later-up later later-down 
     (m : Motion above below earlier-up earlier earlier-down later-up later later-down before cur after width y) (x : ℕ) (l : x < width) where
   motion-same :
       {p q : Float} → p ≡ q → motionIn above below earlier-up earlier earlier-down later-up later later-down (x + 6) p ≡ inMotionOf before cur after (pos x) y q
-  unfolding motionIn inMotionOf
+  unfolding motionIn
   motion-same e =
-      let before-here = at-here (m .past .mid) x l in
-      let before-up = at-here (m .past .up) x l in
-      let before-down = at-here (m .past .down) x l in
-      let after-here = at-here (m .coming .mid) x l in
-      let after-up = at-here (m .coming .up) x l in
-      let after-down = at-here (m .coming .down) x l in
-      let c = at-here (m .near .up) x l in
-      let d = at-here (m .near .down) x l in
-      λ i. heldOf (e i) (averageOf (before-here i) (after-here i))
-      (movedOf (before-here i) (after-here i) (before-up i) (after-up i) (before-down i) (after-down i) (c i) (d i))
+      same-motion _ _ _ before cur after _ _ (pos x) y
+      (at-here (m .past .mid) x l) (at-here (m .coming .mid) x l) (at-here (m .near .up) x l) (at-here (m .near .down) x l)
+      (at-here (m .past .up) x l) (at-here (m .coming .up) x l) (at-here (m .past .down) x l) (at-here (m .coming .down) x l) e
 
   pub yadif-same : yadifIn above below earlier-up earlier earlier-down later-up later later-down x ≡ yadifOf before cur after (pos x) y
   unfolding yadifIn yadifOf edgeOf

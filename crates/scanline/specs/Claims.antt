@@ -1,13 +1,18 @@
--- A line made from rows of samplers has the filters' values of those samplers. proofs/Claims.antt proves each claim under its name in small
+-- A line made from rows of samplers has the filters' values of those samplers, and a number that says whether it was made. proofs/Claims.antt proves each claim under its name in small
 -- letters. Assumes nothing.
 use Prim.Native.Nat.{ℕ, _<_}
 use mathlib.Core.Path.{_≡_}
 use mathlib.Core.List.{List}
 use lib.IntN.{ℤ, pos}
 use lib.Ieee.{Float}
+use Rattle.laws.specs.Refusal.{Says}
 use Rattle.filter.specs.Filter.{Sampler, one, three, bobOf, yadifOf, bwdifOf}
 use Rattle.scanline.specs.Rows.{RowOf, Around, Motion}
-use Rattle.scanline.specs.Lines.{ownIn, bobIn, yadifIn, bwdifIn}
+use Rattle.scanline.specs.Lines.{lineTests, ownIn, bobIn, yadifIn, bwdifIn}
+
+-- The number of a line is 4 exactly when its length is out of bounds, and else 0.
+abbrev pub LineSays : Type 0
+LineSays = (width : ℕ) → Says (lineTests width)
 
 abbrev pub OwnSays : Type 0
 OwnSays = (row : List Float) (v : Sampler) (width : ℕ) (y : ℤ) → RowOf row v width y → (x : ℕ) → x < width → ownIn row x ≡ v (pos x) y

@@ -1,21 +1,30 @@
 -- A line made from expanded rows: the steps of crates/filter, reading places of lists. That they give what the filters give of the samplers
 -- behind the rows is said in Claims. Assumes nothing.
-use Prim.Native.Nat.{ℕ, _+_, _-_, _*_}
-use mathlib.Core.Bool.{cond}
-use mathlib.Core.List.{List}
+use Prim.Native.Nat.{ℕ, zero, suc, _+_, _-_, _*_}
+use mathlib.Core.Bool.{Bool, cond, _&&_}
+use mathlib.Core.List.{List, [], _∷_}
 use lib.Dec.{leb}
+use lib.IntN.{pos, negsuc, natAbs}
 use lib.ListN.{length, getD}
 use lib.Ieee.{Float, nan, binary32, add, mul, lt, ofBits}
+use Rattle.laws.specs.Refusal.{lowest, written}
 use Rattle.laws.specs.Rows.{listed}
 use Rattle.float.specs.Float.{zeroF, oneF, clampOf}
-use Rattle.filter.specs.Filter.{halfF, slantBias, gapOf, averageOf, movedOf, heldOf, cubicOf}
+use Rattle.filter.specs.Filter.{Sampler, halfF, slantBias, gapOf, inMotionOf, cubicOf}
 use Rattle.scanline.specs.declared.Pick.{Pick}
 
 -- ---- a line
 
--- f at each column of a line; a line that no plane has stays
+-- 4: the line is shorter or longer than a row of a plane can be.
+abbrev pub lineTests : ℕ → List (ℕ × Bool)
+lineTests width = (4, leb 1 width && leb width 8192) ∷ []
+
+abbrev pub lineNo : ℕ → ℕ
+lineNo width = lowest (lineTests width)
+
+-- f at each column of a line; at a refusal the line stays
 unfoldable pub drawn : (ℕ → Float) → List Float → List Float
-drawn f line = cond (leb (length line) 8192) (listed (length line) f) line
+drawn f line = written (lineNo (length line)) (listed (length line) f) line
 
 -- ---- the filters, at column x
 
@@ -57,11 +66,16 @@ edgeIn above below far-above far-below x =
 unfoldable pub bobIn : List Float → List Float → ℕ → Float
 bobIn above below x = clampOf (mul binary32 (sumIn above below x 6 6) halfF) zeroF oneF
 
+-- Three rows as a sampler, the rows -1, 0 and 1, its columns being the places of the lists.
+abbrev pub rowsAround : List Float → List Float → List Float → Sampler
+rowsAround up here down x (negsuc n) = getD up (natAbs x) nan
+rowsAround up here down x (pos zero) = getD here (natAbs x) nan
+rowsAround up here down x (pos (suc n)) = getD down (natAbs x) nan
+
+-- A value held by the motion at a place; of cur only the rows above and below are read.
 unfoldable pub motionIn : List Float → List Float → List Float → List Float → List Float → List Float → List Float → List Float → ℕ → Float → Float
 motionIn above below earlier-up earlier earlier-down later-up later later-down i along =
-    heldOf along (averageOf (getD earlier i nan) (getD later i nan))
-    (movedOf (getD earlier i nan) (getD later i nan) (getD earlier-up i nan) (getD later-up i nan) (getD earlier-down i nan) (getD later-down i nan)
-    (getD above i nan) (getD below i nan))
+    inMotionOf (rowsAround earlier-up earlier earlier-down) (rowsAround above [] below) (rowsAround later-up later later-down) (pos i) (pos 0) along
 
 unfoldable pub yadifIn : List Float → List Float → List Float → List Float → List Float → List Float → List Float → List Float → ℕ → Float
 yadifIn above below earlier-up earlier earlier-down later-up later later-down x =

@@ -8,8 +8,9 @@
 // neither a clamp nor a test, and are vectorised. Assumes nothing.
 ghost use mathlib.Core.Path.{_≡_};
 ghost use Prim.Native.Nat.{_≤_};
-ghost use Rattle.filter.specs.Filter.{gapOf, averageOf, changesOf, outsideOf, movedOf, heldOf};
-ghost use Rattle.scanline.specs.Lines.{drawn, ownIn, scoreIn, sumIn, betterIn, triedIn, edgeIn, bobIn, motionIn, yadifIn, bwdifIn};
+ghost use lib.ListN.{length};
+ghost use Rattle.filter.specs.Filter.{meanOf, gapOf, widerOf, beyondOf, heldOf};
+ghost use Rattle.scanline.specs.Lines.{lineNo, drawn, ownIn, scoreIn, sumIn, betterIn, triedIn, edgeIn, bobIn, motionIn, yadifIn, bwdifIn};
 
 // ---- sample by sample
 
@@ -19,61 +20,22 @@ fn gap(a: f32, b: f32) -> f32
     float::abs(a - b)
 }
 
-fn average(before: f32, after: f32) -> f32
-    ensures { λ r. ⌜ r ≡ averageOf before after ⌝ }
+fn mean(a: f32, b: f32) -> f32
+    ensures { λ r. ⌜ r ≡ meanOf a b ⌝ }
 {
-    (before + after) * 0.5
+    (a + b) * 0.5
 }
 
-fn changes(
-    before: f32,
-    after: f32,
-    before_up: f32,
-    after_up: f32,
-    before_down: f32,
-    after_down: f32,
-    c: f32,
-    e: f32,
-) -> f32
-    ensures { λ r. ⌜ r ≡ changesOf before after «before_up» «after_up» «before_down» «after_down» c e ⌝ }
+fn wider(a: f32, b: f32, c: f32) -> f32
+    ensures { λ r. ⌜ r ≡ widerOf a b c ⌝ }
 {
-    let above = float::max(gap(before_up, c), gap(after_up, c));
-    let below = float::max(gap(before_down, e), gap(after_down, e));
-    float::max(float::max(gap(before, after), above), below)
+    float::max(gap(a, c), gap(b, c))
 }
 
-fn outside(average: f32, c: f32, e: f32) -> f32
-    ensures { λ r. ⌜ r ≡ outsideOf average c e ⌝ }
+fn beyond(v: f32, c: f32, e: f32) -> f32
+    ensures { λ r. ⌜ r ≡ beyondOf v c e ⌝ }
 {
-    float::max(
-        float::max(float::min(c, e) - average, average - float::max(c, e)),
-        0.0,
-    )
-}
-
-fn moved(
-    before: f32,
-    after: f32,
-    before_up: f32,
-    after_up: f32,
-    before_down: f32,
-    after_down: f32,
-    c: f32,
-    e: f32,
-) -> f32
-    ensures { λ r. ⌜ r ≡ movedOf before after «before_up» «after_up» «before_down» «after_down» c e ⌝ }
-{
-    let most = changes(
-        before,
-        after,
-        before_up,
-        after_up,
-        before_down,
-        after_down,
-        c,
-        e,
-    );
-    float::max(most * 0.5, outside(average(before, after), c, e))
+    float::max(float::max(float::min(c, e) - v, v - float::max(c, e)), 0.0)
 }
 
 fn hold(along: f32, average: f32, moved: f32) -> f32
@@ -194,20 +156,15 @@ fn in_motion(
     requires { ⌜ i ≤ 8203 ⌝ }
     ensures { λ r. ⌜ r ≡ motionIn (now (above .entry)) (now (below .entry)) (now («earlier_up» .entry)) (now (earlier .entry)) (now («earlier_down» .entry)) (now («later_up» .entry)) (now (later .entry)) (now («later_down» .entry)) i along ⌝ }
 {
-    hold(
-        along,
-        average(earlier[i], later[i]),
-        moved(
-            earlier[i],
-            later[i],
-            earlier_up[i],
-            later_up[i],
-            earlier_down[i],
-            later_down[i],
-            above[i],
-            below[i],
-        ),
-    )
+    let c = above[i];
+    let e = below[i];
+    let average = mean(earlier[i], later[i]);
+    let change = gap(earlier[i], later[i]);
+    let up = wider(earlier_up[i], later_up[i], c);
+    let down = wider(earlier_down[i], later_down[i], e);
+    let outside = beyond(average, c, e);
+    let half = float::max(float::max(change, up), down) * 0.5;
+    hold(along, average, float::max(half, outside))
 }
 
 fn yadif_at(
@@ -270,32 +227,48 @@ fn bwdif_at(
     )
 }
 
-// ---- lines. A longer line than a plane can have is left as it is.
+// ---- lines
 
-pub fn own(out: &mut [f32], row: &[f32; 8204])
+fn line_no(width: usize) -> u8
+    ensures { λ r. ⌜ r ≡ lineNo width ⌝ }
+{
+    if (1 <= width) & (width <= 8192) {
+        plane::refusal::DONE
+    } else {
+        plane::refusal::SHAPE
+    }
+}
+
+pub fn own(out: &mut [f32], row: &[f32; 8204]) -> u8
+    ensures { λ r. ⌜ r ≡ lineNo (length (now (out .entry))) ⌝ }
     ensures { λ _. ⌜ now (out .exit) ≡ drawn (ownIn (now (row .entry))) (now (out .entry)) ⌝ }
 {
-    if 8192 < out.len() {
-        return;
+    let no = line_no(out.len());
+    if no != 0 {
+        return no;
     }
     let mut x = 0;
     while x < out.len() {
         out[x] = row[x + 6];
         x += 1;
     }
+    no
 }
 
-pub fn bob(out: &mut [f32], above: &[f32; 8204], below: &[f32; 8204])
+pub fn bob(out: &mut [f32], above: &[f32; 8204], below: &[f32; 8204]) -> u8
+    ensures { λ r. ⌜ r ≡ lineNo (length (now (out .entry))) ⌝ }
     ensures { λ _. ⌜ now (out .exit) ≡ drawn (bobIn (now (above .entry)) (now (below .entry))) (now (out .entry)) ⌝ }
 {
-    if 8192 < out.len() {
-        return;
+    let no = line_no(out.len());
+    if no != 0 {
+        return no;
     }
     let mut x = 0;
     while x < out.len() {
         out[x] = float::clamp(sum(above, below, x, 6, 6) * 0.5, 0.0, 1.0);
         x += 1;
     }
+    no
 }
 
 pub fn yadif(
@@ -308,11 +281,13 @@ pub fn yadif(
     later_up: &[f32; 8204],
     later: &[f32; 8204],
     later_down: &[f32; 8204],
-)
+) -> u8
+    ensures { λ r. ⌜ r ≡ lineNo (length (now (out .entry))) ⌝ }
     ensures { λ _. ⌜ now (out .exit) ≡ drawn (yadifIn (now (above .entry)) (now (below .entry)) (now («earlier_up» .entry)) (now (earlier .entry)) (now («earlier_down» .entry)) (now («later_up» .entry)) (now (later .entry)) (now («later_down» .entry))) (now (out .entry)) ⌝ }
 {
-    if 8192 < out.len() {
-        return;
+    let no = line_no(out.len());
+    if no != 0 {
+        return no;
     }
     let mut x = 0;
     while x < out.len() {
@@ -329,6 +304,7 @@ pub fn yadif(
         );
         x += 1;
     }
+    no
 }
 
 pub fn bwdif(
@@ -343,11 +319,13 @@ pub fn bwdif(
     later_down: &[f32; 8204],
     far_above: &[f32; 8204],
     far_below: &[f32; 8204],
-)
+) -> u8
+    ensures { λ r. ⌜ r ≡ lineNo (length (now (out .entry))) ⌝ }
     ensures { λ _. ⌜ now (out .exit) ≡ drawn (bwdifIn (now (above .entry)) (now (below .entry)) (now («earlier_up» .entry)) (now (earlier .entry)) (now («earlier_down» .entry)) (now («later_up» .entry)) (now (later .entry)) (now («later_down» .entry)) (now («far_above» .entry)) (now («far_below» .entry))) (now (out .entry)) ⌝ }
 {
-    if 8192 < out.len() {
-        return;
+    let no = line_no(out.len());
+    if no != 0 {
+        return no;
     }
     let mut x = 0;
     while x < out.len() {
@@ -366,4 +344,5 @@ pub fn bwdif(
         );
         x += 1;
     }
+    no
 }

@@ -8,6 +8,7 @@ use lib.Dec.{leb}
 use lib.ListN.{length}
 use denote.Ref.{now}
 use Rattle.laws.specs.Refusal.{lowest}
+use Rattle.filter.specs.Rows.{goodRows}
 use Rattle.fill.specs.Band.{bandNo}
 use Rattle.fill.proofs.Judged.{judged, writes, leaves}
 use Rattle.fill.proofs.band.Statement.{statement}
@@ -16,17 +17,17 @@ use Rattle.fill.proofs.band.Tie as tie
 -- the call's number is the definition's
 number :
     (c : tie.After-lowest-of) →
-    let a = c .before .before .before .before .before .before .before .before .before .before .before .before .before .before .before .args in
+    let a = c .before .before .before .before .before .before .before .before .before .before .before .before .before .before .before .before .before .args in
     c .lowest-of .result
-    ≡ bandNo (a .before-shape) (length (now (a .before))) (a .cur-shape) (length (now (a .cur))) (a .after-shape) (length (now (a .after))) (a .from) (a .count)
+    ≡ bandNo (a .rows) (a .before-shape) (length (now (a .before))) (a .cur-shape) (length (now (a .cur))) (a .after-shape) (length (now (a .after))) (a .from) (a .count)
     (length (now (a .out)))
 unfolding lowest
 number c =
-    let a = c .before .before .before .before .before .before .before .before .before .before .before .before .before .before .before .args in
+    let a = c .before .before .before .before .before .before .before .before .before .before .before .before .before .before .before .before .before .args in
     c .lowest-of .ensures
     ∙ (λ i.
     lowest
-    ((3, leb (a .from + a .count) (a .cur-shape .height))
+    ((3, goodRows (a .rows) && leb (a .from + a .count) (a .cur-shape .height))
     ∷ (4, c .before .before .before .before .before .before .before .before .before .good-shape .ensures i && c .before .before .before .before .before .before .before .before .good-shape2 .ensures i && c .before .before .before .before .before .before .before .good-shape3 .ensures i)
     ∷ (5, c .before .before .before .before .before .before .planes-agree .ensures i && c .before .before .before .before .before .planes-agree2 .ensures i)
     ∷ (
@@ -73,7 +74,10 @@ lowest-of-requires : tie.Need-lowest-of-requires
 lowest-of-requires c κs = search needs
 
 lines-requires : tie.Need-lines-requires
-lines-requires c κs = judged _ _ _ _ _ _ _ _ _ (sym (number (c .before .before)) ∙ c .before .if1 .taken)
+lines-requires c κs =
+    let n = c .before .before in
+    let a = n .before .before .before .before .before .before .before .before .before .before .before .before .before .before .before .before .before .args in
+    judged (a .rows) _ _ _ _ _ _ _ _ _ (sym (number n) ∙ c .before .if1 .taken)
 
 same-length : tie.Need-same-length
 same-length c = search needs

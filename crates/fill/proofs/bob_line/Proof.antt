@@ -25,8 +25,8 @@ returns c =
     let z = c .before .before .before .before .before .before .before .before .before .before .before in
     let a = z .args in
     let near = c .before .before .before .before .before .before .around .ensures in (
-      c .before .before .bob .ensures
-          ∙ drawn-as _ _ (λ x. bobOf (valueOf (now (a .src)) (a .s)) (pos x) (pos (a .y))) _ (z .pre .1 .0 .0) (z .pre .0 .width-high) (bob-same near),
+      c .before .before .bob .ensures .1
+          ∙ drawn-as _ _ (λ x. bobOf (valueOf (now (a .src)) (a .s)) (pos x) (pos (a .y))) _ (z .pre .1 .0 .0) (z .pre .0 .width-low) (z .pre .0 .width-high) (bob-same near),
       around-rooms near,
     )
 

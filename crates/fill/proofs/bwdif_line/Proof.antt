@@ -32,8 +32,8 @@ returns c =
     let a = z .args in
     let rows = c .before .before .before .before .before .before .before .before .before .before .before .before .before .before .before .before .before .motion .ensures in
     let far = c .before .before .before .before .before .before .before .before .before .before .before .before .before .before .around .ensures in (
-      c .before .before .bwdif .ensures
-          ∙ drawn-as _ _ (λ x. bwdifOf (valueOf (now (a .before)) (a .before-shape)) (valueOf (now (a .cur)) (a .cur-shape)) (valueOf (now (a .after)) (a .after-shape)) (pos x) (pos (a .y))) _ (z .pre .1 .0 .0) (z .pre .0 .cur-lent .width-high) (λ x l. bwdif-same rows x l far),
+      c .before .before .bwdif .ensures .1
+          ∙ drawn-as _ _ (λ x. bwdifOf (valueOf (now (a .before)) (a .before-shape)) (valueOf (now (a .cur)) (a .cur-shape)) (valueOf (now (a .after)) (a .after-shape)) (pos x) (pos (a .y))) _ (z .pre .1 .0 .0) (z .pre .0 .cur-lent .width-low) (z .pre .0 .cur-lent .width-high) (λ x l. bwdif-same rows x l far),
       record { eight = motion-rooms rows; far = around-rooms far },
     )
 

@@ -24,7 +24,7 @@ returns c =
     let z = c .before .before .before .before .before .before .before .before .before in
     let a = z .args in
     let row = c .before .before .before .before .before .expand .ensures (pos (a .y)) (held-here (a .s .height) (a .y) (z .pre .1 .1)) in
-    (c .before .before .own .ensures ∙ drawn-as _ _ (λ x. valueOf (now (a .src)) (a .s) (pos x) (pos (a .y))) _ (z .pre .1 .0) (z .pre .0 .width-high) (at-here row), row .size)
+    (c .before .before .own .ensures .1 ∙ drawn-as _ _ (λ x. valueOf (now (a .src)) (a .s) (pos x) (pos (a .y))) _ (z .pre .1 .0) (z .pre .0 .width-low) (z .pre .0 .width-high) (at-here row), row .size)
 
 pub own-line-spec : {M : Type 1} → statement M
 own-line-spec = tie.close (tie.spec expand-requires own-requires same-length returns)

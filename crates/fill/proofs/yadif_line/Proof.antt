@@ -25,8 +25,8 @@ returns c =
     let z = c .before .before .before .before .before .before .before .before .before .before .before .before .before .before .before .before .before .before .before .before .before .before .before .before .before in
     let a = z .args in
     let rows = c .before .before .before .before .before .before .before .before .before .before .before .before .motion .ensures in (
-      c .before .before .yadif .ensures
-          ∙ drawn-as _ _ (λ x. yadifOf (valueOf (now (a .before)) (a .before-shape)) (valueOf (now (a .cur)) (a .cur-shape)) (valueOf (now (a .after)) (a .after-shape)) (pos x) (pos (a .y))) _ (z .pre .1 .0 .0) (z .pre .0 .cur-lent .width-high) (yadif-same rows),
+      c .before .before .yadif .ensures .1
+          ∙ drawn-as _ _ (λ x. yadifOf (valueOf (now (a .before)) (a .before-shape)) (valueOf (now (a .cur)) (a .cur-shape)) (valueOf (now (a .after)) (a .after-shape)) (pos x) (pos (a .y))) _ (z .pre .1 .0 .0) (z .pre .0 .cur-lent .width-low) (z .pre .0 .cur-lent .width-high) (yadif-same rows),
       motion-rooms rows,
     )
 

@@ -13,6 +13,7 @@ use Rattle.plane.specs.Plane.{half}
 use Rattle.filter.specs.Filter.{Sampler}
 use Rattle.fill.specs.Band.{bandOf}
 use Rattle.picture.specs.Picture.{Frame, frameOf, served, lumaIn, cbIn, crIn}
+use Rattle.filter.specs.declared.Rows.{Rows}
 use Rattle.picture.specs.Inner.{Ready}
 use Rattle.picture.proofs.Judged.{served-has, three-served}
 use Rattle.picture.proofs.Painted.{group-rows}
@@ -64,7 +65,7 @@ record Within (cur : Frame) (from count : ℕ) : Type 0 where
   chroma-room : half count * half (cur .shapes .luma .width) ≤ 16384
 
 bands-within :
-    (before cur after : Frame) (from count : ℕ) → Ready before cur after → from % 2 ≡ 0 → from + count ≤ cur .shapes .luma .height → count ≤ 8 →
+    {rows : Rows} (before cur after : Frame) (from count : ℕ) → Ready rows before cur after → from % 2 ≡ 0 → from + count ≤ cur .shapes .luma .height → count ≤ 8 →
     Within cur from count
 bands-within before cur after from count r even inside few =
     let chroma-inside : from / 2 + half count ≤ half (cur .shapes .luma .height) = omega arith in

@@ -1,6 +1,6 @@
 -- `picture::picture_of` meets its contract. Assumes nothing.
-use mathlib.Core.Path.{_≡_, refl, sym, _∙_}
-use mathlib.Core.Bool.{_&&_}
+use mathlib.Core.Path.{_≡_, refl, sym, subst, _∙_}
+use mathlib.Core.Bool.{true, _&&_}
 use mathlib.Core.List.{[], _∷_}
 use borrow.Author.Needs.{needs}
 use lib.Dec.{leb}
@@ -9,6 +9,9 @@ use denote.Ref.{now}
 use Rattle.laws.specs.Refusal.{lowest}
 use Rattle.laws.specs.Rows.{over}
 use Rattle.laws.proofs.Refusal.{written-done}
+use Rattle.filter.specs.declared.Rows.{Rows}
+use Rattle.filter.specs.Rows.{goodRows}
+use Rattle.filter.proofs.Claims.{output-rows-good}
 use Rattle.fill.proofs.Judged.{leaves}
 use Rattle.picture.specs.Picture.{Frame, frameOf, served, pixelRows, pictureNo}
 use Rattle.picture.proofs.Judged.{judged, has-room}
@@ -102,8 +105,9 @@ paint-requires c κs =
     let n = c .before .before .before .before in
     let z = entry n in
     let done = sym (number n) ∙ c .before .before .before .if1 .taken in
-    let room = length (now (z .args .out)) in (
-      judged (z .args .conversion) (previous-of z) (current-of z) (following-of z) room done (z .args .output .before) (z .args .output .after),
+    let room = length (now (z .args .out)) in
+    let asked = subst (λ (rows : Rows). goodRows rows ≡ true) (sym (c .of .ensures)) (output-rows-good (z .args .output)) in (
+      judged (z .args .conversion) (previous-of z) (current-of z) (following-of z) room done (c .of .result) asked (z .args .output .before) (z .args .output .after),
       has-room (z .args .conversion) (previous-of z) (current-of z) (following-of z) room done,
     )
 

@@ -31,7 +31,7 @@ enum-told c = search needs
 samples-with-after-requires : tie.Need-samples-with-after-requires
 samples-with-after-requires c κs =
     let z = c .before .before .before .before .before .before .before in
-    (subst (λ (s : Source). Three (served s (z .args .previous-shape) (z .args .current-shape) (z .args .following-shape)) (served s (length (now (z .args .previous))) (length (now (z .args .current))) (length (now (z .args .following)))) (z .args .current-shape) (length (now (z .args .current))) (served (z .args .after) (z .args .previous-shape) (z .args .current-shape) (z .args .following-shape)) (served (z .args .after) (length (now (z .args .previous))) (length (now (z .args .current))) (length (now (z .args .following))))) (c .before .enum-told .given .1) (z .pre .0), z .pre .1)
+    (subst (λ (s : Source). Three (z .args .rows) (served s (z .args .previous-shape) (z .args .current-shape) (z .args .following-shape)) (served s (length (now (z .args .previous))) (length (now (z .args .current))) (length (now (z .args .following)))) (z .args .current-shape) (length (now (z .args .current))) (served (z .args .after) (z .args .previous-shape) (z .args .current-shape) (z .args .following-shape)) (served (z .args .after) (length (now (z .args .previous))) (length (now (z .args .current))) (length (now (z .args .following))))) (c .before .enum-told .given .1) (z .pre .0), z .pre .1)
 
 enum-told-2 : tie.Need-enum-told-2
 enum-told-2 c = search needs
@@ -39,7 +39,7 @@ enum-told-2 c = search needs
 samples-with-after-requires-2 : tie.Need-samples-with-after-requires-2
 samples-with-after-requires-2 c κs =
     let z = c .before .before .before .before .before .before .before in
-    (subst (λ (s : Source). Three (served s (z .args .previous-shape) (z .args .current-shape) (z .args .following-shape)) (served s (length (now (z .args .previous))) (length (now (z .args .current))) (length (now (z .args .following)))) (z .args .current-shape) (length (now (z .args .current))) (served (z .args .after) (z .args .previous-shape) (z .args .current-shape) (z .args .following-shape)) (served (z .args .after) (length (now (z .args .previous))) (length (now (z .args .current))) (length (now (z .args .following))))) (c .before .enum-told2 .given .1) (z .pre .0), z .pre .1)
+    (subst (λ (s : Source). Three (z .args .rows) (served s (z .args .previous-shape) (z .args .current-shape) (z .args .following-shape)) (served s (length (now (z .args .previous))) (length (now (z .args .current))) (length (now (z .args .following)))) (z .args .current-shape) (length (now (z .args .current))) (served (z .args .after) (z .args .previous-shape) (z .args .current-shape) (z .args .following-shape)) (served (z .args .after) (length (now (z .args .previous))) (length (now (z .args .current))) (length (now (z .args .following))))) (c .before .enum-told2 .given .1) (z .pre .0), z .pre .1)
 
 enum-told-3 : tie.Need-enum-told-3
 enum-told-3 c = search needs
@@ -47,7 +47,7 @@ enum-told-3 c = search needs
 samples-with-after-requires-3 : tie.Need-samples-with-after-requires-3
 samples-with-after-requires-3 c κs =
     let z = c .before .before .before .before .before .before .before in
-    (subst (λ (s : Source). Three (served s (z .args .previous-shape) (z .args .current-shape) (z .args .following-shape)) (served s (length (now (z .args .previous))) (length (now (z .args .current))) (length (now (z .args .following)))) (z .args .current-shape) (length (now (z .args .current))) (served (z .args .after) (z .args .previous-shape) (z .args .current-shape) (z .args .following-shape)) (served (z .args .after) (length (now (z .args .previous))) (length (now (z .args .current))) (length (now (z .args .following))))) (c .before .enum-told3 .given .1) (z .pre .0), z .pre .1)
+    (subst (λ (s : Source). Three (z .args .rows) (served s (z .args .previous-shape) (z .args .current-shape) (z .args .following-shape)) (served s (length (now (z .args .previous))) (length (now (z .args .current))) (length (now (z .args .following)))) (z .args .current-shape) (length (now (z .args .current))) (served (z .args .after) (z .args .previous-shape) (z .args .current-shape) (z .args .following-shape)) (served (z .args .after) (length (now (z .args .previous))) (length (now (z .args .current))) (length (now (z .args .following))))) (c .before .enum-told3 .given .1) (z .pre .0), z .pre .1)
 
 same-length : tie.Need-same-length
 same-length c = search needs

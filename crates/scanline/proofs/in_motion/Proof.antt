@@ -1,76 +1,97 @@
 -- `scanline::in_motion` meets its contract. Assumes nothing.
-use mathlib.Core.Path.{_∙_}
+use mathlib.Core.Path.{refl}
+use mathlib.Core.List.{[]}
+use lib.IntN.{pos}
 use borrow.Author.Needs.{needs}
-use Rattle.filter.specs.Filter.{heldOf}
-use Rattle.scanline.specs.Lines.{motionIn}
+use denote.Ref.{now}
+use Rattle.filter.proofs.Motion.{joined}
+use Rattle.scanline.specs.Lines.{rowsAround, motionIn}
 use Rattle.scanline.proofs.in_motion.Statement.{statement}
 use Rattle.scanline.proofs.in_motion.Tie as tie
 
-mul-average : tie.Need-mul-average
-mul-average c = search needs
+mul-c : tie.Need-mul-c
+mul-c c = search needs
 
-element-copy-out-average : tie.Need-element-copy-out-average
-element-copy-out-average c = search needs
+element-copy-out-c : tie.Need-element-copy-out-c
+element-copy-out-c c = search needs
 
-mul-average-2 : tie.Need-mul-average-2
-mul-average-2 c = search needs
+mul-e : tie.Need-mul-e
+mul-e c = search needs
 
-element-copy-out-average-2 : tie.Need-element-copy-out-average-2
-element-copy-out-average-2 c = search needs
+element-copy-out-e : tie.Need-element-copy-out-e
+element-copy-out-e c = search needs
 
-average-requires : tie.Need-average-requires
-average-requires c κs = search needs
+mul-mean : tie.Need-mul-mean
+mul-mean c = search needs
 
-mul-moved : tie.Need-mul-moved
-mul-moved c = search needs
+element-copy-out-mean : tie.Need-element-copy-out-mean
+element-copy-out-mean c = search needs
 
-element-copy-out-moved : tie.Need-element-copy-out-moved
-element-copy-out-moved c = search needs
+mul-mean-2 : tie.Need-mul-mean-2
+mul-mean-2 c = search needs
 
-mul-moved-2 : tie.Need-mul-moved-2
-mul-moved-2 c = search needs
+element-copy-out-mean-2 : tie.Need-element-copy-out-mean-2
+element-copy-out-mean-2 c = search needs
 
-element-copy-out-moved-2 : tie.Need-element-copy-out-moved-2
-element-copy-out-moved-2 c = search needs
+mean-requires : tie.Need-mean-requires
+mean-requires c κs = search needs
 
-mul-moved-3 : tie.Need-mul-moved-3
-mul-moved-3 c = search needs
+mul-gap : tie.Need-mul-gap
+mul-gap c = search needs
 
-element-copy-out-moved-3 : tie.Need-element-copy-out-moved-3
-element-copy-out-moved-3 c = search needs
+element-copy-out-gap : tie.Need-element-copy-out-gap
+element-copy-out-gap c = search needs
 
-mul-moved-4 : tie.Need-mul-moved-4
-mul-moved-4 c = search needs
+mul-gap-2 : tie.Need-mul-gap-2
+mul-gap-2 c = search needs
 
-element-copy-out-moved-4 : tie.Need-element-copy-out-moved-4
-element-copy-out-moved-4 c = search needs
+element-copy-out-gap-2 : tie.Need-element-copy-out-gap-2
+element-copy-out-gap-2 c = search needs
 
-mul-moved-5 : tie.Need-mul-moved-5
-mul-moved-5 c = search needs
+gap-requires : tie.Need-gap-requires
+gap-requires c κs = search needs
 
-element-copy-out-moved-5 : tie.Need-element-copy-out-moved-5
-element-copy-out-moved-5 c = search needs
+mul-wider : tie.Need-mul-wider
+mul-wider c = search needs
 
-mul-moved-6 : tie.Need-mul-moved-6
-mul-moved-6 c = search needs
+element-copy-out-wider : tie.Need-element-copy-out-wider
+element-copy-out-wider c = search needs
 
-element-copy-out-moved-6 : tie.Need-element-copy-out-moved-6
-element-copy-out-moved-6 c = search needs
+mul-wider-2 : tie.Need-mul-wider-2
+mul-wider-2 c = search needs
 
-mul-moved-7 : tie.Need-mul-moved-7
-mul-moved-7 c = search needs
+element-copy-out-wider-2 : tie.Need-element-copy-out-wider-2
+element-copy-out-wider-2 c = search needs
 
-element-copy-out-moved-7 : tie.Need-element-copy-out-moved-7
-element-copy-out-moved-7 c = search needs
+wider-requires : tie.Need-wider-requires
+wider-requires c κs = search needs
 
-mul-moved-8 : tie.Need-mul-moved-8
-mul-moved-8 c = search needs
+mul-wider-3 : tie.Need-mul-wider-3
+mul-wider-3 c = search needs
 
-element-copy-out-moved-8 : tie.Need-element-copy-out-moved-8
-element-copy-out-moved-8 c = search needs
+element-copy-out-wider-3 : tie.Need-element-copy-out-wider-3
+element-copy-out-wider-3 c = search needs
 
-moved-requires : tie.Need-moved-requires
-moved-requires c κs = search needs
+mul-wider-4 : tie.Need-mul-wider-4
+mul-wider-4 c = search needs
+
+element-copy-out-wider-4 : tie.Need-element-copy-out-wider-4
+element-copy-out-wider-4 c = search needs
+
+wider-requires-2 : tie.Need-wider-requires-2
+wider-requires-2 c κs = search needs
+
+beyond-requires : tie.Need-beyond-requires
+beyond-requires c κs = search needs
+
+max-requires : tie.Need-max-requires
+max-requires c κs = search needs
+
+max-requires-2 : tie.Need-max-requires-2
+max-requires-2 c κs = search needs
+
+max-requires-3 : tie.Need-max-requires-3
+max-requires-3 c κs = search needs
 
 hold-requires : tie.Need-hold-requires
 hold-requires c κs = search needs
@@ -78,33 +99,51 @@ hold-requires c κs = search needs
 returns : tie.Need-returns
 unfolding motionIn
 returns c =
-    c .hold .ensures ∙ (λ i. heldOf (c .before .before .before .before .before .before .before .before .before .before .before .before .before .args .along) (c .before .before .before .before .before .before .before .before .before .before .average .ensures i) (c .before .moved .ensures i))
+    let a = c .before .before .before .before .before .before .before .before .before .before .before .before .before .before .before .before .before .before .before .args in
+    joined (rowsAround (now (a .earlier-up)) (now (a .earlier)) (now (a .earlier-down))) (rowsAround (now (a .above)) [] (now (a .below)))
+    (rowsAround (now (a .later-up)) (now (a .later)) (now (a .later-down))) (pos (a .i)) (pos 0) (a .along)
+    refl refl refl refl refl refl refl refl refl refl
+    (c .before .before .before .before .before .before .before .before .before .before .before .before .before .before .mean .ensures)
+    (c .before .before .before .before .before .before .before .before .before .before .before .gap .ensures)
+    (c .before .before .before .before .before .before .before .before .wider .ensures)
+    (c .before .before .before .before .before .wider2 .ensures)
+    (c .before .before .before .before .beyond .ensures)
+    (c .before .before .before .max .ensures)
+    (c .before .before .max2 .ensures)
+    (c .before .max3 .ensures)
+    (c .hold .ensures)
 
 pub in-motion-spec : {M : Type 1} → statement M
 in-motion-spec =
     tie.close
     (tie.spec
-    mul-average
-    element-copy-out-average
-    mul-average-2
-    element-copy-out-average-2
-    average-requires
-    mul-moved
-    element-copy-out-moved
-    mul-moved-2
-    element-copy-out-moved-2
-    mul-moved-3
-    element-copy-out-moved-3
-    mul-moved-4
-    element-copy-out-moved-4
-    mul-moved-5
-    element-copy-out-moved-5
-    mul-moved-6
-    element-copy-out-moved-6
-    mul-moved-7
-    element-copy-out-moved-7
-    mul-moved-8
-    element-copy-out-moved-8
-    moved-requires
+    mul-c
+    element-copy-out-c
+    mul-e
+    element-copy-out-e
+    mul-mean
+    element-copy-out-mean
+    mul-mean-2
+    element-copy-out-mean-2
+    mean-requires
+    mul-gap
+    element-copy-out-gap
+    mul-gap-2
+    element-copy-out-gap-2
+    gap-requires
+    mul-wider
+    element-copy-out-wider
+    mul-wider-2
+    element-copy-out-wider-2
+    wider-requires
+    mul-wider-3
+    element-copy-out-wider-3
+    mul-wider-4
+    element-copy-out-wider-4
+    wider-requires-2
+    beyond-requires
+    max-requires
+    max-requires-2
+    max-requires-3
     hold-requires
     returns)

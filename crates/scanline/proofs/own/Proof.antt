@@ -1,7 +1,8 @@
 -- `scanline::own` meets its contract. Assumes nothing.
-use mathlib.Core.Path.{refl}
+use mathlib.Core.Path.{refl, sym, _∙_}
 use Prim.Native.Nat.{_-_}
 use native.Mathlib.Omega.{arith}
+use borrow.Author.Needs.{needs}
 use lib.ListN.{length}
 use Rattle.scanline.specs.Lines.{ownIn}
 use Rattle.scanline.proofs.Drawn.{Drawn, drawn-none, drawn-more, drawn-all, undrawn}
@@ -9,16 +10,19 @@ use Rattle.scanline.proofs.own.Statement.{statement}
 use Rattle.scanline.proofs.own.Tie as tie
 
 abbrev Inv-loop : tie.InvT-loop
-Inv-loop out₀ row x₀ out x = Drawn out₀ out x (ownIn row)
+Inv-loop out₀ row no' x₀ out x = Drawn out₀ out x (ownIn row)
 
 abbrev μ-loop : tie.MeasureT-loop
-μ-loop out₀ row x₀ out x = length out₀ - x
+μ-loop out₀ row no' x₀ out x = length out₀ - x
+
+line-no-requires : tie.Need-line-no-requires Inv-loop μ-loop
+line-no-requires c κs = search needs
 
 returns : tie.Need-returns Inv-loop μ-loop
-returns c = undrawn _ _ (c .if1 .taken)
+returns c = let e = c .before .line-no .ensures in (e, undrawn _ _ (λ z. c .if1 .taken (e ∙ z)))
 
 loop-holds : tie.Need-loop-holds Inv-loop μ-loop
-loop-holds c = drawn-none
+loop-holds c = drawn-none (sym (c .before .line-no .ensures) ∙ c .if1 .left)
 
 add-out : tie.Need-add-out Inv-loop μ-loop
 add-out c = omega arith
@@ -48,7 +52,7 @@ same-length : tie.Need-same-length Inv-loop μ-loop
 same-length c = c .before .loop .inv .long
 
 returns-2 : tie.Need-returns-2 Inv-loop μ-loop
-returns-2 c = drawn-all (c .before .loop .inv) (omega arith) (omega arith)
+returns-2 c = (c .before .before .before .line-no .ensures, drawn-all (c .before .loop .inv) (omega arith))
 
 pub own-spec : {M : Type 1} → statement M
 own-spec =
@@ -56,6 +60,7 @@ own-spec =
     (tie.spec
     Inv-loop
     μ-loop
+    line-no-requires
     returns
     loop-holds
     add-out

@@ -1,4 +1,5 @@
 -- `scanline::yadif` meets its contract. Assumes nothing.
+use mathlib.Core.Path.{sym, _∙_}
 use Prim.Native.Nat.{_-_}
 use native.Mathlib.Omega.{arith}
 use borrow.Author.Needs.{needs}
@@ -9,16 +10,19 @@ use Rattle.scanline.proofs.yadif.Statement.{statement}
 use Rattle.scanline.proofs.yadif.Tie as tie
 
 abbrev Inv-loop : tie.InvT-loop
-Inv-loop out₀ above below earlier-up earlier earlier-down later-up later later-down x₀ out x = Drawn out₀ out x (yadifIn above below earlier-up earlier earlier-down later-up later later-down)
+Inv-loop out₀ above below earlier-up earlier earlier-down later-up later later-down no' x₀ out x = Drawn out₀ out x (yadifIn above below earlier-up earlier earlier-down later-up later later-down)
 
 abbrev μ-loop : tie.MeasureT-loop
-μ-loop out₀ above below earlier-up earlier earlier-down later-up later later-down x₀ out x = length out₀ - x
+μ-loop out₀ above below earlier-up earlier earlier-down later-up later later-down no' x₀ out x = length out₀ - x
+
+line-no-requires : tie.Need-line-no-requires Inv-loop μ-loop
+line-no-requires c κs = search needs
 
 returns : tie.Need-returns Inv-loop μ-loop
-returns c = undrawn _ _ (c .if1 .taken)
+returns c = let e = c .before .line-no .ensures in (e, undrawn _ _ (λ z. c .if1 .taken (e ∙ z)))
 
 loop-holds : tie.Need-loop-holds Inv-loop μ-loop
-loop-holds c = drawn-none
+loop-holds c = drawn-none (sym (c .before .line-no .ensures) ∙ c .if1 .left)
 
 yadif-at-requires : tie.Need-yadif-at-requires Inv-loop μ-loop
 yadif-at-requires c κs = search needs
@@ -42,7 +46,7 @@ same-length : tie.Need-same-length Inv-loop μ-loop
 same-length c = c .before .loop .inv .long
 
 returns-2 : tie.Need-returns-2 Inv-loop μ-loop
-returns-2 c = drawn-all (c .before .loop .inv) (omega arith) (omega arith)
+returns-2 c = (c .before .before .before .line-no .ensures, drawn-all (c .before .loop .inv) (omega arith))
 
 pub yadif-spec : {M : Type 1} → statement M
 yadif-spec =
@@ -50,6 +54,7 @@ yadif-spec =
     (tie.spec
     Inv-loop
     μ-loop
+    line-no-requires
     returns
     loop-holds
     yadif-at-requires

@@ -1,8 +1,8 @@
--- `filter::outside_of` meets its contract. Assumes nothing.
-use Rattle.filter.specs.Filter.{outsideOf}
+-- `filter::beyond` meets its contract. Assumes nothing.
+use Rattle.filter.specs.Filter.{beyondOf}
 use borrow.Author.Needs.{needs}
-use Rattle.filter.proofs.outside_of.Statement.{statement}
-use Rattle.filter.proofs.outside_of.Tie as tie
+use Rattle.filter.proofs.beyond.Statement.{statement}
+use Rattle.filter.proofs.beyond.Tie as tie
 
 min-requires : tie.Need-min-requires
 min-requires c κs = search needs
@@ -17,9 +17,9 @@ max-requires-3 : tie.Need-max-requires-3
 max-requires-3 c κs = search needs
 
 returns : tie.Need-returns
-unfolding outsideOf
+unfolding beyondOf
 returns c = cc
 
-pub outside-of-spec : {M : Type 1} → statement M
-outside-of-spec =
+pub beyond-spec : {M : Type 1} → statement M
+beyond-spec =
     tie.close (tie.spec min-requires max-requires max-requires-2 max-requires-3 returns)
