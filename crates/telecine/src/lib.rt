@@ -18,7 +18,7 @@ ghost use Rattle.field.specs.Field.{firstRowOf};
 ghost use Rattle.plane.specs.Plane.{goodShape, planeBytes, gridShape};
 ghost use Rattle.block.specs.Answer.{countNo, countsOf};
 ghost use Rattle.pulldown.specs.Lock.{answerNo, answerValues, lockedOf, predictNo, predictCadence};
-ghost use Rattle.telecine.specs.Detector.{nothingKept, freshDetector, resetOf, sameParity, ledBy, seenMeasured, comparable, seenPicture, measuredNo, measuredCadence, measuredDetector, keptBytes, pushNo, pushCadence, pushDetector, pushStore};
+ghost use Rattle.telecine.specs.Detector.{freshDetector, resetOf, sameParity, ledBy, seenMeasured, comparable, seenPicture, measuredNo, measuredCadence, measuredDetector, keptBytes, pushNo, pushCadence, pushDetector, pushStore};
 use block::Counted;
 use block::Counts;
 use field::Chosen;
@@ -154,26 +154,19 @@ fn picture_no(kept: Kept, grid: Grid, bytes: usize, room: usize) -> u8
     plane::refusal::lowest_of(true, good, true, long & held, fits, true)
 }
 
-fn nothing_kept() -> Kept
-    ensures { λ r. ⌜ r ≡ nothingKept ⌝ }
-{
-    Kept {
-        held: false,
-        width: 0,
-        height: 0,
-        first: Parity::Top,
-    }
-}
-
 impl Detector {
     pub fn new() -> Detector
         ensures { λ r. ⌜ r ≡ freshDetector ⌝ }
     {
         let lock = Lock::new();
-        let kept = nothing_kept();
         Detector {
             lock: lock,
-            kept: kept,
+            kept: Kept {
+                held: false,
+                width: 0,
+                height: 0,
+                first: Parity::Top,
+            },
             last: Chosen::Neither,
         }
     }
@@ -182,10 +175,11 @@ impl Detector {
     pub fn reset(self) -> Detector
         ensures { λ r. ⌜ r ≡ resetOf self ⌝ }
     {
+        let fresh = Detector::new();
         let old = self.lock;
-        let last = self.last;
         let lock = old.reset();
-        let kept = nothing_kept();
+        let kept = fresh.kept;
+        let last = self.last;
         Detector {
             lock: lock,
             kept: kept,
@@ -197,7 +191,8 @@ impl Detector {
         ensures { λ r. ⌜ r ≡ lockedOf (self .lock) ⌝ }
     {
         let lock = self.lock;
-        lock.locked()
+        let locks = lock.locked();
+        locks
     }
 
     // The cadence of the frame that comes after `ahead` others, as far as the lock tells it.
@@ -213,6 +208,7 @@ impl Detector {
         ensures { λ r. ⌜ (r .detector ≡ measuredDetector self first measured) × (answerNo (r .answer) ≡ measuredNo self) × (answerValues (r .answer) ≡ whenDone (measuredNo self) (measuredCadence self first measured)) ⌝ }
     {
         let last = self.last;
+        let led = Chosen::Field(first);
         let kept = self.kept;
         let old = self.lock;
         let pushed = old.push(seen_measured(last, first, measured));
@@ -223,7 +219,7 @@ impl Detector {
                 detector: Detector {
                     lock: lock,
                     kept: kept,
-                    last: Chosen::Field(first),
+                    last: led,
                 },
                 answer: Answer::Gave(cadence),
             },

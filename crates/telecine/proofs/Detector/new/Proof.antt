@@ -6,11 +6,8 @@ use Rattle.telecine.proofs.Detector.new.Tie as tie
 new-requires : tie.Need-new-requires
 new-requires c κs = search needs
 
-nothing-kept-requires : tie.Need-nothing-kept-requires
-nothing-kept-requires c κs = search needs
-
 returns : tie.Need-returns
-returns c = simp (c .nothing-kept .ensures, c .before .new .ensures)
+returns c = simp (c .new .ensures)
 
 pub new-spec : {M : Type 1} → statement M
-new-spec = tie.close (tie.spec new-requires nothing-kept-requires returns)
+new-spec = tie.close (tie.spec new-requires returns)
