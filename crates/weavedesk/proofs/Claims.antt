@@ -1,7 +1,7 @@
 -- The claims of specs/Claims.antt. Assumes nothing.
 use Rattle.laws.specs.Refusal.{rising}
 use Rattle.laws.proofs.Claims.{lowest-says}
-use Rattle.weavedesk.specs.Claims.{WeaveSays, LineSays, LineOutSays, ReadbackSays, NewSays, ClearSays, PushSays, FoundAgain, AlwaysSized, PushSized, PairsWoven, TooShort}
+use Rattle.weavedesk.specs.Claims.{WeaveSays, LineSays, LineOutSays, ReadbackSays, NewSays, ClearSays, PushSays, FoundAgain, AlwaysSized, PushSized, PairsWoven, RefusalKnown, RefusedLeaves, PlacesStay, TooShort}
 use Rattle.weavedesk.proofs.States as states
 use Rattle.weavedesk.proofs.Demand as demand
 
@@ -47,6 +47,15 @@ push-sized = states.push-sized
 -- ---- over calls
 pub pairs-woven : PairsWoven
 pairs-woven = demand.pairs-woven
+
+pub refusal-known : RefusalKnown
+refusal-known = demand.refusal-known
+
+pub refused-leaves : RefusedLeaves
+refused-leaves = demand.refused-leaves
+
+pub places-stay : PlacesStay
+places-stay = demand.places-stay
 
 pub too-short : TooShort
 too-short = demand.too-short

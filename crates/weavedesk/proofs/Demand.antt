@@ -1,24 +1,23 @@
--- The weaver's claim over the exported calls, and what becomes of a state that is too short. Assumes nothing.
-use Prim.Native.Nat.{ℕ, _<_}
+-- The weaver's claims over the exported calls. Assumes nothing.
+use Prim.Native.Nat.{ℕ, _<_, _≤_}
 use mathlib.Core.Path.{_≡_, refl, sym, ap, subst, _∙_}
-use mathlib.Core.Bool.{false}
+use mathlib.Core.Bool.{Bool, true, false, _&&_}
 use mathlib.Core.List.{List, [], _∷_}
 use native.Mathlib.Omega.{arith}
 use lib.Dec.{leb, lit<}
 use lib.ListN.{length}
-use borrow.Author.Tests.{leb-true, lt-leb}
-use Rattle.laws.specs.Refusal.{written}
-use Rattle.laws.proofs.Refusal.{first-passes, rest-passes, stays}
-use Rattle.plane.proofs.Coordinates.{both-inside}
+use borrow.Author.Tests.{lt-leb, ne-eqb}
+use Rattle.laws.specs.Refusal.{lowest, written}
+use Rattle.laws.proofs.Refusal.{first-passes, stays}
 use Rattle.weaver.specs.declared.Time.{Time}
 use Rattle.weaver.specs.declared.Time.the-variants as time
 use Rattle.weaver.specs.History as calls
 use Rattle.weaver.specs.Claims as claims
 use Rattle.weaver.proofs.Claims as weaver
-use Rattle.weavedesk.specs.Push.{Lent, Offer, emptied, pushNo, stateAfter, storeAfter, lumaAfter, cbAfter, crAfter, pictureNumber, timedNumber, timeNumber}
-use Rattle.weavedesk.specs.History.{Call, push, clear, next, after, fieldMeant, callsOf, timedOf, timeOf}
-use Rattle.weavedesk.specs.Claims.{Gives, PairsWoven, TooShort}
-use Rattle.weavedesk.proofs.Held.{heldIn, number-same, alone-fails, any-held}
+use Rattle.weavedesk.specs.Push.{Lent, Offer, newNo, clearNo, pushNo, lumaAfter, cbAfter, crAfter, pictureNumber, timedNumber, timeNumber}
+use Rattle.weavedesk.specs.History.{Call, new, push, clear, after, fieldMeant, named, callsOf, timedOf, timeOf}
+use Rattle.weavedesk.specs.Claims.{Gives, PairsWoven, RefusalKnown, RefusedLeaves, PlacesStay, TooShort}
+use Rattle.weavedesk.proofs.Held.{heldIn, number-same, alone-fails, Follows, follows}
 
 -- ---- what a field gets
 timed-one : (t : Time) → timedNumber (t ∷ []) ≡ timedOf t
@@ -48,46 +47,78 @@ module _ (l : Lent) (o : Offer) (done : pushNo l o ≡ 0) (number : pushNo l o �
     cr = λ out. (λ i. crAfter (number i) l o out) ∙ g .cr out;
   }
 
+module _ (state store : List ℕ) (o : Offer) (earlier : List Call) (room : 56 ≤ length state) where
+  abbrev l : Lent
+  l = after state store earlier
+
+  -- the mate by the calls that a store of n bytes has room for
+  abbrev mate : ℕ → calls.Waiting
+  mate n = calls.mateOf (calls.waitingAfter (calls.taken n (callsOf earlier))) (fieldMeant o)
+
+  f : Follows state store earlier
+  f = follows state store room earlier
+
+  pairs : pushNo l o ≡ 0 → Gives (mate (length store)) l o
+  pairs done =
+      let number = number-same l (f .held .room) o (first-passes 3 _ _ (lit< tt) done) in
+      let taken = subst (λ (s : calls.State). calls.numberIn s (fieldMeant o) ≡ 0) (f .held .same) (sym number ∙ done) in
+      let said = weaver.pairs-woven (f .found) (fieldMeant o) (callsOf earlier) taken in
+      let here = subst (λ (s : calls.State). claims.Gives (mate (length (f .found))) s (fieldMeant o)) (sym (f .held .same)) said in
+      subst (λ (n : ℕ). Gives (mate n) l o) (f .long) (gives l o done number (mate (length (f .found))) here)
+
+  -- the number, where the codes name something and where they do not
+  known-named :
+      named o ≡ true → pushNo l o ≡ lowest (calls.refusalTests (length store) (fieldMeant o) (calls.taken (length store) (callsOf earlier)))
+  known-named e =
+      number-same l (f .held .room) o e
+      ∙ ap (λ (s : calls.State). calls.numberIn s (fieldMeant o)) (f .held .same)
+      ∙ weaver.refusal-known (f .found) (fieldMeant o) (callsOf earlier)
+      ∙ ap (λ (n : ℕ). calls.refusalOf n (fieldMeant o) (calls.taken n (callsOf earlier))) (f .long)
+
+  number-known :
+      (b : Bool) → named o ≡ b
+      → pushNo l o ≡ lowest ((3, b) ∷ calls.refusalTests (length store) (fieldMeant o) (calls.taken (length store) (callsOf earlier)))
+  unfolding lowest
+  number-known true e = known-named e
+  number-known false e = rw e
+
 pub pairs-woven : PairsWoven
-pairs-woven state store o earlier room done =
-    let l = after state store earlier in
-    let h = any-held state store room earlier in
-    let mate = calls.mateOf (calls.waitingAfter (calls.taken (length store) (callsOf earlier))) (fieldMeant o) in
-    let number = number-same l (h .room) o (first-passes 3 _ _ (lit< tt) done) in
-    let taken = subst (λ (s : calls.State). calls.numberIn s (fieldMeant o) ≡ 0) (h .same) (sym number ∙ done) in
-    let said = weaver.pairs-woven store (fieldMeant o) (callsOf earlier) taken in
-    gives l o done number mate (subst (λ (s : calls.State). claims.Gives mate s (fieldMeant o)) (sym (h .same)) said)
+pairs-woven state store o earlier room done = pairs state store o earlier room done
+
+pub refusal-known : RefusalKnown
+refusal-known state store o earlier room = number-known state store o earlier room (named o) refl
+
+-- ---- refused calls
+pub refused-leaves : RefusedLeaves
+refused-leaves l new h = rw (ne-eqb (newNo (length (l .state))) 0 h)
+refused-leaves l clear h = rw (ne-eqb (clearNo (length (l .state))) 0 h)
+refused-leaves l (push o fit) h = rw (ne-eqb (pushNo l o) 0 h)
+
+pub places-stay : PlacesStay
+places-stay l o h = record {
+  picture = λ old. sym (stays _ old h);
+  timed = λ old. sym (stays _ old h);
+  time = λ old. sym (stays _ old h);
+  luma = λ out. sym (stays _ out h);
+  cb = λ out. sym (stays _ out h);
+  cr = λ out. sym (stays _ out h);
+}
 
 -- ---- a state that is too short
-module _ (state store : List ℕ) (short : length state < 56) where
-  abbrev untouched : Lent
-  untouched = record { state = state; store = store }
-
-  none-fits : leb 56 (length state) ≡ false
-  none-fits = lt-leb 56 (length state) short
-
-  push-refused : (o : Offer) → pushNo untouched o ≡ 0 → ⊥
-  push-refused o z =
-      let past = rest-passes 5 _ _ (lit< tt) (rest-passes 4 _ _ (lit< tt) (rest-passes 3 _ _ (lit< tt) z)) in
-      let long = both-inside _ _ (both-inside _ _ (first-passes 6 _ _ (lit< tt) past) .0) .0 in
-      omega (arith, leb-true 56 (length state) long, short)
-
-  state-stays : (o : Offer) → stateAfter (pushNo untouched o) untouched o ≡ state
-  state-stays o = sym (stays _ state (push-refused o))
-
-  store-stays : (o : Offer) → storeAfter (pushNo untouched o) untouched o ≡ store
-  store-stays o = sym (stays _ store (push-refused o))
-
-  left : (made : List Call) → after state store made ≡ untouched
-  left [] = λ i. record { state = emptied (alone-fails 7 (leb 56 (length state)) none-fits i) state; store = store }
-  left (push o fit ∷ earlier) =
-      ap (λ (l : Lent). next l (push o fit)) (left earlier)
-      ∙ (λ i. record { state = state-stays o i; store = store-stays o i })
-  left (clear ∷ earlier) =
-      ap (λ (l : Lent). next l clear) (left earlier) ∙ (λ i. record { state = emptied (alone-fails 6 (leb 56 (length state)) none-fits i) state; store = store })
+short-push :
+    (codes good halved state bytes store : Bool) (tests : List (ℕ × Bool)) → state ≡ false
+    → let n = lowest ((3, codes) ∷ (4, good) ∷ (5, halved) ∷ (6, state && bytes && store) ∷ tests) in (0 < n) × (n ≤ 6)
+unfolding lowest
+short-push true true true state bytes store tests e = rw e (omega arith, omega arith)
+short-push true true false state bytes store tests e = (omega arith, omega arith)
+short-push true false halved state bytes store tests e = (omega arith, omega arith)
+short-push false good halved state bytes store tests e = (omega arith, omega arith)
 
 pub too-short : TooShort
-too-short state store earlier short = record {
-  left = left state store short earlier;
-  refused = λ o z. push-refused state store short o (ap (λ (l : Lent). pushNo l o) (sym (left state store short earlier)) ∙ z);
-}
+too-short l short =
+    let long = lt-leb 56 (length (l .state)) short in
+    record {
+      new = alone-fails 7 (leb 56 (length (l .state))) long;
+      clear = alone-fails 6 (leb 56 (length (l .state))) long;
+      push = λ o. short-push _ _ _ (leb 56 (length (l .state))) _ _ _ long;
+    }

@@ -15,11 +15,11 @@ use Rattle.weaver.specs.declared.Time.the-variants as time
 use Rattle.weaver.specs.declared.Weaver.{Weaver}
 use Rattle.weaver.specs.Weaver.{emptyWeaver, pushWeaver, pushStore}
 use Rattle.weaver.specs.History as calls
-use Rattle.weaver.proofs.Claims as weaver
+use Rattle.weaver.proofs.Held as weaver-held
 use Rattle.weavedesk.specs.Woven.{fieldNamed}
 use Rattle.weavedesk.specs.Waiting.{wholeSize, weaverNumbers, weaverIn, keeping}
 use Rattle.weavedesk.specs.Push.{Lent, Offer, newNo, clearNo, emptied, parityIn, timeIn, given, weaverOf, pushNo, weaverAfter, stateAfter, storeAfter}
-use Rattle.weavedesk.specs.History.{Call, push, clear, next, after, fieldMeant, named, callsOf}
+use Rattle.weavedesk.specs.History.{Call, new, push, clear, next, after, fieldMeant, named, callsOf}
 use Rattle.weavedesk.specs.Claims.{Sized}
 use Rattle.weavedesk.proofs.States.{found-again, empty-sized, push-sized}
 
@@ -107,29 +107,63 @@ module _ (l : Lent) (room : 56 ≤ length (l .state)) where
         store = l .store;
       }
 
--- ---- any calls
-module _ (state store : List ℕ) (room : 56 ≤ length state) where
-  push-held :
-      (l : Lent) (made : List calls.Call) → Held l (calls.after store made) → (o : Offer) (fit : wholeSize (o .time) < 2 ^ 63) (b : Bool) → named o ≡ b
-      → Held (next l (push o fit)) (calls.after store (cond b (calls.push (fieldMeant o) ∷ made) made))
-  push-held l made h o fit true e = record {
-    room = written-room (pushNo l o) (weaverAfter l o) (l .state) (h .room);
-    same = pushed-held l (h .room) o fit e ∙ ap (λ (s : calls.State). calls.next s (calls.push (fieldMeant o))) (h .same);
-  }
-  push-held l made h o fit false e = record { room = written-room (pushNo l o) (weaverAfter l o) (l .state) (h .room); same = unnamed-held l (h .room) o fit e ∙ h .same }
+new-held : (l : Lent) → 56 ≤ length (l .state) → Held (next l new) (calls.after (l .store) [])
+new-held l room = record { room = written-room (newNo (length (l .state))) emptyWeaver (l .state) room; same = begun }
+  where
+    begun : heldIn (next l new) ≡ calls.after (l .store) []
+    begun =
+        let zero = alone-passes 7 (leb 56 (length (l .state))) (le-leb 56 (length (l .state)) room) in
+        λ i. record { weaver = ((λ j. weaverIn (emptied (zero j) (l .state))) ∙ found-again emptyWeaver (l .state) empty-sized) i; store = l .store }
 
-  pub any-held : (made : List Call) → Held (after state store made) (calls.after store (callsOf made))
-  any-held [] = record { room = written-room (newNo (length state)) emptyWeaver state room; same = begun }
-    where
-      begun : heldIn (after state store []) ≡ calls.after store []
-      begun =
-          let zero = alone-passes 7 (leb 56 (length state)) (le-leb 56 (length state) room) in
-          λ i. record { weaver = ((λ j. weaverIn (emptied (zero j) state)) ∙ found-again emptyWeaver state empty-sized) i; store = store }
-  any-held (push o fit ∷ earlier) = push-held (after state store earlier) (callsOf earlier) (any-held earlier) o fit (named o) refl
-  any-held (clear ∷ earlier) =
+-- ---- any calls
+
+push-held :
+    (store : List ℕ) (l : Lent) (made : List calls.Call) → Held l (calls.after store made) → (o : Offer) (fit : wholeSize (o .time) < 2 ^ 63) (b : Bool)
+    → named o ≡ b → Held (next l (push o fit)) (calls.after store (cond b (calls.push (fieldMeant o) ∷ made) made))
+push-held store l made h o fit true e = record {
+  room = written-room (pushNo l o) (weaverAfter l o) (l .state) (h .room);
+  same = pushed-held l (h .room) o fit e ∙ ap (λ (s : calls.State). calls.next s (calls.push (fieldMeant o))) (h .same);
+}
+push-held store l made h o fit false e = record {
+  room = written-room (pushNo l o) (weaverAfter l o) (l .state) (h .room);
+  same = unnamed-held l (h .room) o fit e ∙ h .same;
+}
+
+-- what the calls leave is what the fields since the last `new` leave, from the store that it found
+pub record Follows (state store : List ℕ) (made : List Call) : Type 0 where
+  pub found : List ℕ
+  pub long : length found ≡ length store
+  pub held : Held (after state store made) (calls.after found (callsOf made))
+
+module _ (state store : List ℕ) (room : 56 ≤ length state) where
+  pub follows : (made : List Call) → Follows state store made
+  follows [] = record { found = store; long = refl; held = new-held (record { state = state; store = store }) room }
+  follows (new ∷ earlier) =
+      let f = follows earlier in
       let l = after state store earlier in
-      let h = any-held earlier in
       record {
-        room = written-room (clearNo (length (l .state))) emptyWeaver (l .state) (h .room);
-        same = cleared-held l (h .room) ∙ ap (λ (s : calls.State). calls.next s calls.clear) (h .same);
+        found = l .store;
+        long =
+            ap (λ (s : calls.State). length (s .store)) (f .held .same)
+            ∙ weaver-held.any-held (f .found) (callsOf earlier) .long
+            ∙ f .long;
+        held = new-held l (f .held .room);
+      }
+  follows (push o fit ∷ earlier) =
+      let f = follows earlier in
+      record {
+        found = f .found;
+        long = f .long;
+        held = push-held (f .found) (after state store earlier) (callsOf earlier) (f .held) o fit (named o) refl;
+      }
+  follows (clear ∷ earlier) =
+      let f = follows earlier in
+      let l = after state store earlier in
+      record {
+        found = f .found;
+        long = f .long;
+        held = record {
+          room = written-room (clearNo (length (l .state))) emptyWeaver (l .state) (f .held .room);
+          same = cleared-held l (f .held .room) ∙ ap (λ (s : calls.State). calls.next s calls.clear) (f .held .same);
+        };
       }

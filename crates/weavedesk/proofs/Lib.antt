@@ -8,4 +8,5 @@ pub mod Push
 pub mod States
 pub mod Held
 pub mod Demand
+pub mod Door
 pub mod Claims

@@ -1,23 +1,23 @@
 -- What the exported functions' contracts come to. proofs/Claims.antt proves each claim under its name in small letters. Assumes nothing.
 use Prim.Native.Nat.{ℕ, _≤_, _<_, _^_}
 use mathlib.Core.Path.{_≡_}
-use mathlib.Core.List.{List}
+use mathlib.Core.List.{List, _∷_}
 use lib.IntN.{ℤ, pos}
 use lib.ListN.{length}
-use Rattle.laws.specs.Refusal.{Says}
+use Rattle.laws.specs.Refusal.{lowest, Says}
 use Rattle.laws.specs.Rows.{over}
 use Rattle.weave.specs.Weave.{givenOf, weaveTests, lineTests}
 use Rattle.weaver.specs.declared.Weaver.{Weaver}
 use Rattle.weaver.specs.Weaver.{wovenBy}
-use Rattle.weaver.specs.History.{Sent, Waiting, none, waits, mateOf, waitingAfter, taken}
+use Rattle.weaver.specs.History.{Sent, Waiting, none, waits, mateOf, waitingAfter, refusalTests, taken}
 use Rattle.readback.specs.Readback.{readbackTests}
 use Rattle.weavedesk.specs.declared.LinesNumbers.{LinesNumbers}
 use Rattle.weavedesk.specs.declared.FieldNumbers.{FieldNumbers}
 use Rattle.weavedesk.specs.declared.ReadbackNumbers.{ReadbackNumbers}
 use Rattle.weavedesk.specs.Woven.{linesNamed, fieldNamed, readbackNamed, lineOutTests}
 use Rattle.weavedesk.specs.Waiting.{wholeSize, timeSize, weaverIn, keeping}
-use Rattle.weavedesk.specs.Push.{Lent, Offer, newTests, clearTests, pushTests, pushNo, weaverAfter, lumaAfter, cbAfter, crAfter, pictureAfter, timedAfter, timeAfter}
-use Rattle.weavedesk.specs.History.{Call, after, linesMeant, fieldMeant, callsOf, timedOf, timeOf}
+use Rattle.weavedesk.specs.Push.{Lent, Offer, newTests, newNo, clearTests, clearNo, pushTests, pushNo, weaverAfter, lumaAfter, cbAfter, crAfter, pictureAfter, timedAfter, timeAfter}
+use Rattle.weavedesk.specs.History.{Call, numberOf, next, after, linesMeant, fieldMeant, named, callsOf, timedOf, timeOf}
 
 -- ---- the numbers: 0 exactly when no number applies, and otherwise the lowest that does, of each call's own tests
 
@@ -98,18 +98,41 @@ abbrev pub Gives : Waiting → Lent → Offer → Type 0
 Gives none l o = NoPicture l o
 Gives (waits first) l o = Picture l first o
 
--- Over any exported calls the pictures and times are exactly those of the pairs that the paper names, of the fields that the host gave. A state of
--- fewer than 56 bytes is no state: `new` refuses it with 7, every other call with 6 or a lower number, and none changes it (`TooShort`). What is
--- lent stays as long as it is.
+-- Take any calls of `new`, `push` and `clear` after a `new`, refused ones among them, state and store lent back as they were left. The pictures and
+-- times are exactly those of the pairs that the paper names, of the fields that the host gave.
 abbrev pub PairsWoven : Type 0
 PairsWoven =
     (state store : List ℕ) (o : Offer) (earlier : List Call) → 56 ≤ length state → pushNo (after state store earlier) o ≡ 0
     → Gives (mateOf (waitingAfter (taken (length store) (callsOf earlier))) (fieldMeant o)) (after state store earlier) o
 
--- With a shorter one every call is refused, and state and store stay as they were.
-pub record Unchanged (state store : List ℕ) (earlier : List Call) : Type 0 where
-  pub left : after state store earlier ≡ record { state = state; store = store }
-  pub refused : (o : Offer) → pushNo (after state store earlier) o ≡ 0 → ⊥
+-- What a field gets is known from the host's numbers, the fields before it that were taken, and the length of the store.
+abbrev pub RefusalKnown : Type 0
+RefusalKnown =
+    (state store : List ℕ) (o : Offer) (earlier : List Call) → 56 ≤ length state
+    → pushNo (after state store earlier) o
+    ≡ lowest ((3, named o) ∷ refusalTests (length store) (fieldMeant o) (taken (length store) (callsOf earlier)))
+
+-- A refused call leaves the state and the store as they were, whatever they hold and however long they are,
+abbrev pub RefusedLeaves : Type 0
+RefusedLeaves = (l : Lent) (call : Call) → (numberOf l call ≡ 0 → ⊥) → next l call ≡ l
+
+-- and a refused push the outputs and the lent places too.
+pub record Stays (l : Lent) (o : Offer) : Type 0 where
+  pub picture : (old : ℕ) → pictureAfter (pushNo l o) l o old ≡ old
+  pub timed : (old : ℕ) → timedAfter (pushNo l o) l o old ≡ old
+  pub time : (old : ℤ) → timeAfter (pushNo l o) l o old ≡ old
+  pub luma : (out : List ℕ) → lumaAfter (pushNo l o) l o out ≡ out
+  pub cb : (out : List ℕ) → cbAfter (pushNo l o) l o out ≡ out
+  pub cr : (out : List ℕ) → crAfter (pushNo l o) l o out ≡ out
+
+abbrev pub PlacesStay : Type 0
+PlacesStay = (l : Lent) (o : Offer) → (pushNo l o ≡ 0 → ⊥) → Stays l o
+
+-- With a state of fewer than 56 bytes every call is refused: `new` with 7, `clear` with 6, a push with 6 or a lower number.
+pub record AllRefused (l : Lent) : Type 0 where
+  pub new : newNo (length (l .state)) ≡ 7
+  pub clear : clearNo (length (l .state)) ≡ 6
+  pub push : (o : Offer) → (0 < pushNo l o) × (pushNo l o ≤ 6)
 
 abbrev pub TooShort : Type 0
-TooShort = (state store : List ℕ) (earlier : List Call) → length state < 56 → Unchanged state store earlier
+TooShort = (l : Lent) → length (l .state) < 56 → AllRefused l

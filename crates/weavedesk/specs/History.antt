@@ -2,6 +2,7 @@
 -- anywhere. First what the calls leave, by the very definitions that their contracts cite; then the fields that the host's numbers mean, spelled out
 -- here and nowhere taken from the contracts, so that the two can be held against each other. Lists of calls are newest first. Assumes nothing.
 use Prim.Native.Nat.{ℕ, _<_, _^_}
+use mathlib.Core.Path.{_≡_}
 use mathlib.Core.Bool.{Bool, cond, _&&_}
 use mathlib.Core.List.{List, [], _∷_}
 use lib.Dec.{leb, eqb}
@@ -20,16 +21,32 @@ use Rattle.weavedesk.specs.Push.{Lent, Offer, newNo, clearNo, emptied, p
 
 -- a time is a number of 64 bits, as the export takes no other
 pub data Call : Type 0 where
+  new : Call
   push : (o : Offer) → wholeSize (o .time) < 2 ^ 63 → Call
   clear : Call
 
+-- the number that a call gets, and what it leaves
+abbrev pub numberOf : Lent → Call → ℕ
+numberOf l new = newNo (length (l .state))
+numberOf l (push o _) = pushNo l o
+numberOf l clear = clearNo (length (l .state))
+
 abbrev pub next : Lent → Call → Lent
+next l new = record { state = emptied (newNo (length (l .state))) (l .state); store = l .store }
 next l (push o _) = record { state = stateAfter (pushNo l o) l o; store = storeAfter (pushNo l o) l o }
 next l clear = record { state = emptied (clearNo (length (l .state))) (l .state); store = l .store }
 
+-- what `desk_weaver_new` and then these calls leave
 abbrev pub after : List ℕ → List ℕ → List Call → Lent
-after state store [] = record { state = emptied (newNo (length state)) state; store = store }
+after state store [] = next (record { state = state; store = store }) new
 after state store (call ∷ earlier) = next (after state store earlier) call
+
+-- A push that was made: the number that it gave, and what it left at each place. The contract of `desk_weaver_push` comes to this, by the parameters
+-- of its signature (proofs/Door.antt).
+pub record Pushed (l : Lent) (o : Offer) (given : ℕ) (state store : List ℕ) : Type 0 where
+  pub number : given ≡ pushNo l o
+  pub state-left : state ≡ stateAfter (pushNo l o) l o
+  pub store-left : store ≡ storeAfter (pushNo l o) l o
 
 -- ---- what the host means
 
@@ -56,9 +73,10 @@ fieldMeant o = record {
 abbrev pub named : Offer → Bool
 named o = leb (o .parity) 1 && leb (o .timed) 1
 
--- the weaver's calls that the desk's stand for; one whose codes name nothing gets 3 and stands for none
+-- the weaver's calls since the last `new` that the desk's stand for; one whose codes name nothing gets 3 and stands for none
 abbrev pub callsOf : List Call → List calls.Call
 callsOf [] = []
+callsOf (new ∷ earlier) = []
 callsOf (push o _ ∷ earlier) = cond (named o) (calls.push (fieldMeant o) ∷ callsOf earlier) (callsOf earlier)
 callsOf (clear ∷ earlier) = calls.clear ∷ callsOf earlier
 

@@ -1,0 +1,83 @@
+-- The contracts of the exported calls on a weaver are what the histories take them for: each, read as a plain type over the parameters of its
+-- signature in their order, comes to the number, the places and the lists that History and Push give. So a contract that means other parameters is
+-- refused here, though its code meet it. Assumes nothing.
+use Prim.Native.Nat.{ℕ}
+use mathlib.Core.Path.{_≡_, refl, ap, _∙_}
+use mathlib.Core.List.{List}
+use lib.ListN.{length}
+use contract.Lifetimes.{Lfts}
+use denote.Ref.{now}
+use denote.Triple.Clauses.{AtExit}
+use borrow.Fn.Kinds.{PK, RK, Out, Dens, resT, endedOf}
+use Rattle.weavedesk.specs.Push.{Lent, Offer, newNo, clearNo, emptied, stateAfter, storeAfter, lumaAfter, cbAfter, crAfter, pictureAfter, timedAfter, timeAfter}
+use Rattle.weavedesk.specs.History.{Pushed}
+use Rattle.weavedesk.proofs.desk_weaver_new.Kinds as new-kinds
+use Rattle.weavedesk.proofs.desk_weaver_new.Reads as new-reads
+use Rattle.weavedesk.proofs.desk_weaver_clear.Kinds as clear-kinds
+use Rattle.weavedesk.proofs.desk_weaver_clear.Reads as clear-reads
+use Rattle.weavedesk.proofs.desk_weaver_push.Kinds as push-kinds
+use Rattle.weavedesk.proofs.desk_weaver_push.Reads as push-reads
+
+abbrev pub Comes : (n : ℕ) (ps : List (PK n)) (r : RK n) → Out n ps r
+    → ((κs : Lfts n) → Dens κs ps → resT r κs .Denot → AtExit (endedOf n ps r) κs → Type 0) → Type 0
+Comes n ps r meets says = (κs : Lfts n) (a : Dens κs ps) (x : resT r κs .Denot) (s : AtExit (endedOf n ps r) κs) → meets κs a x s → says κs a x s
+
+pub new-comes :
+    Comes 1 new-kinds.ps new-kinds.r new-reads.Post
+    (λ κs a x s. (x ≡ newNo (length (now (a .0)))) × (now (s .0) ≡ emptied (newNo (length (now (a .0)))) (now (a .0))))
+new-comes κs a x s met = (met .0, met .1 ∙ ap (λ (n : ℕ). emptied n (now (a .0))) (met .0))
+
+pub clear-comes :
+    Comes 1 clear-kinds.ps clear-kinds.r clear-reads.Post
+    (λ κs a x s. (x ≡ clearNo (length (now (a .0)))) × (now (s .0) ≡ emptied (clearNo (length (now (a .0)))) (now (a .0))))
+clear-comes κs a x s met = (met .0, met .1 ∙ ap (λ (n : ℕ). emptied n (now (a .0))) (met .0))
+
+-- the parameters of `desk_weaver_push`, in their order
+module _ (κs : Lfts 11) (a : Dens κs push-kinds.ps) where
+  -- the first and the ninth
+  abbrev lentTo : Lent
+  lentTo = record { state = now (a .0); store = now (a .1 .1 .1 .1 .1 .1 .1 .1 .0) }
+
+  -- parity, `timed`, the time, the numbers; luma, cb and cr; and, behind the store, the outputs for luma, cb and cr
+  abbrev offered : Offer
+  offered = record {
+    parity = a .1 .0;
+    timed = a .1 .1 .0;
+    time = a .1 .1 .1 .0;
+    shape = a .1 .1 .1 .1 .0;
+    luma = now (a .1 .1 .1 .1 .1 .0);
+    cb = now (a .1 .1 .1 .1 .1 .1 .0);
+    cr = now (a .1 .1 .1 .1 .1 .1 .1 .0);
+    luma-room = length (now (a .1 .1 .1 .1 .1 .1 .1 .1 .1 .0));
+    cb-room = length (now (a .1 .1 .1 .1 .1 .1 .1 .1 .1 .1 .0));
+    cr-room = length (now (a .1 .1 .1 .1 .1 .1 .1 .1 .1 .1 .1 .0));
+  }
+
+-- what was given and left, and then the outputs and the three places, last of all the time
+pub push-comes :
+    Comes 11 push-kinds.ps push-kinds.r push-reads.Post
+    (λ κs a x s.
+    let l = lentTo κs a in
+    let o = offered κs a in
+    Pushed l o x (now (s .0)) (now (s .1 .1 .1 .1 .1 .1 .1 .1 .0))
+    × (now (s .1 .1 .1 .1 .1 .1 .1 .1 .1 .0) ≡ lumaAfter x l o (now (a .1 .1 .1 .1 .1 .1 .1 .1 .1 .0)))
+    × (now (s .1 .1 .1 .1 .1 .1 .1 .1 .1 .1 .0) ≡ cbAfter x l o (now (a .1 .1 .1 .1 .1 .1 .1 .1 .1 .1 .0)))
+    × (now (s .1 .1 .1 .1 .1 .1 .1 .1 .1 .1 .1 .0) ≡ crAfter x l o (now (a .1 .1 .1 .1 .1 .1 .1 .1 .1 .1 .1 .0)))
+    × (now (s .1 .1 .1 .1 .1 .1 .1 .1 .1 .1 .1 .1 .0) ≡ pictureAfter x l o (now (a .1 .1 .1 .1 .1 .1 .1 .1 .1 .1 .1 .1 .0)))
+    × (now (s .1 .1 .1 .1 .1 .1 .1 .1 .1 .1 .1 .1 .1 .0) ≡ timedAfter x l o (now (a .1 .1 .1 .1 .1 .1 .1 .1 .1 .1 .1 .1 .1 .0)))
+    × (now (s .1 .1 .1 .1 .1 .1 .1 .1 .1 .1 .1 .1 .1 .1 .0) ≡ timeAfter x l o (now (a .1 .1 .1 .1 .1 .1 .1 .1 .1 .1 .1 .1 .1 .1 .0))))
+push-comes κs a x s met =
+    let l = lentTo κs a in
+    let o = offered κs a in (
+      record {
+        number = met .0;
+        state-left = met .1 .0 ∙ ap (λ (n : ℕ). stateAfter n l o) (met .0);
+        store-left = met .1 .1 .0 ∙ ap (λ (n : ℕ). storeAfter n l o) (met .0);
+      },
+      met .1 .1 .1 .0,
+      met .1 .1 .1 .1 .0,
+      met .1 .1 .1 .1 .1 .0,
+      met .1 .1 .1 .1 .1 .1 .0,
+      met .1 .1 .1 .1 .1 .1 .1 .0,
+      met .1 .1 .1 .1 .1 .1 .1 .1,
+    )
