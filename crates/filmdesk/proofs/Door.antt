@@ -5,10 +5,8 @@ use Prim.Native.Nat.{ℕ}
 use mathlib.Core.Path.{_≡_, refl, ap, _∙_}
 use mathlib.Core.List.{List}
 use lib.ListN.{length}
-use contract.Lifetimes.{Lfts}
 use denote.Ref.{now}
-use denote.Triple.Clauses.{AtExit}
-use borrow.Fn.Kinds.{PK, RK, Out, Dens, resT, endedOf}
+use Rattle.laws.specs.Contracts.{Comes}
 use Rattle.filmdesk.specs.Film.{stateNo, predictStateNo, measuredNamed}
 use Rattle.filmdesk.specs.Left.{newState, resetState, lockedByte, foretoldByte, measuredState, measuredByte, pushedState, pushedStore, pushedByte}
 use Rattle.filmdesk.specs.History.{picture, counts, new, push, reset, Lent, byteIn, Made}
@@ -24,12 +22,6 @@ use Rattle.filmdesk.proofs.desk_detector_push_measured.Kinds as measure
 use Rattle.filmdesk.proofs.desk_detector_push_measured.Reads as measured-reads
 use Rattle.filmdesk.proofs.desk_detector_push.Kinds as push-kinds
 use Rattle.filmdesk.proofs.desk_detector_push.Reads as push-reads
-
--- Of a function with n lifetimes, the parameters ps and the result r, whatever the arguments a: a result x and what stands in the parameters at exit,
--- s, that meet the contract, are as is said. A parameter is `.0` of what is left after those before it.
-abbrev pub Comes : (n : ℕ) (ps : List (PK n)) (r : RK n) → Out n ps r
-    → ((κs : Lfts n) → Dens κs ps → resT r κs .Denot → AtExit (endedOf n ps r) κs → Type 0) → Type 0
-Comes n ps r meets says = (κs : Lfts n) (a : Dens κs ps) (x : resT r κs .Denot) (s : AtExit (endedOf n ps r) κs) → meets κs a x s → says κs a x s
 
 abbrev lent : List ℕ → List ℕ → Lent
 lent state store = record { state = state; store = store }

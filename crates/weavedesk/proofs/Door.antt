@@ -7,8 +7,8 @@ use mathlib.Core.List.{List}
 use lib.ListN.{length}
 use contract.Lifetimes.{Lfts}
 use denote.Ref.{now}
-use denote.Triple.Clauses.{AtExit}
-use borrow.Fn.Kinds.{PK, RK, Out, Dens, resT, endedOf}
+use borrow.Fn.Kinds.{Dens}
+use Rattle.laws.specs.Contracts.{Comes}
 use Rattle.weavedesk.specs.Push.{Lent, Offer, newNo, clearNo, emptied, stateAfter, storeAfter, lumaAfter, cbAfter, crAfter, pictureAfter, timedAfter, timeAfter}
 use Rattle.weavedesk.specs.History.{Pushed}
 use Rattle.weavedesk.proofs.desk_weaver_new.Kinds as new-kinds
@@ -17,10 +17,6 @@ use Rattle.weavedesk.proofs.desk_weaver_clear.Kinds as clear-kinds
 use Rattle.weavedesk.proofs.desk_weaver_clear.Reads as clear-reads
 use Rattle.weavedesk.proofs.desk_weaver_push.Kinds as push-kinds
 use Rattle.weavedesk.proofs.desk_weaver_push.Reads as push-reads
-
-abbrev pub Comes : (n : ℕ) (ps : List (PK n)) (r : RK n) → Out n ps r
-    → ((κs : Lfts n) → Dens κs ps → resT r κs .Denot → AtExit (endedOf n ps r) κs → Type 0) → Type 0
-Comes n ps r meets says = (κs : Lfts n) (a : Dens κs ps) (x : resT r κs .Denot) (s : AtExit (endedOf n ps r) κs) → meets κs a x s → says κs a x s
 
 pub new-comes :
     Comes 1 new-kinds.ps new-kinds.r new-reads.Post
