@@ -12,6 +12,7 @@ use block::Counted;
 use block::Counts;
 use field::Cadence;
 use field::Parity;
+use plane::Grid;
 use plane::Layout;
 use plane::Shape;
 use pulldown::Answer;
@@ -327,14 +328,13 @@ fn busy_with(n: usize) -> Counted
         frame[i / 16 * 32 + i % 16] = 9;
         i += 1;
     }
-    let shape = Shape {
+    let grid = Grid {
         width: 16,
         height: 16,
         depth: 8,
         stride: 16,
-        layout: Layout::Planar,
     };
-    block::count(&frame, shape, &[0u8; 256], Parity::Top)
+    block::count(&frame, grid, &[0u8; 256], Parity::Top)
 }
 
 fn tell_whether(list: &[u8], told: Told, name: &[u8], busy: u64) -> Told {

@@ -68,7 +68,8 @@ impl Entry {
     pub fn first(self) -> field::Parity
         ensures { λ r. ⌜ r ≡ parityNamed (self .parity) ⌝ }
     {
-        field::Parity::named(self.parity as u32)
+        let number = self.parity as u32;
+        field::Parity::named(number)
     }
 
     pub fn measured(self) -> telecine::Measured

@@ -199,7 +199,8 @@ fn reset_in(state: &[u8]) -> Detector
     ensures { λ r. ⌜ r ≡ resetOf (detectorIn (now (state .entry))) ⌝ }
 {
     let detector = outline_in(state);
-    detector.reset()
+    let fresh = detector.reset();
+    fresh
 }
 
 fn one_if(yes: bool) -> u8
@@ -356,7 +357,8 @@ pub extern "C" fn desk_cadences(entries: &[u8], out: &mut [u8]) -> u8
     ensures { λ r. ⌜ r ≡ cadencesNo (now (entries .entry)) (length (now (out .entry))) ⌝ }
     ensures { λ r. ⌜ now (out .exit) ≡ written r (over (cadencesOf (now (entries .entry))) (now (out .entry))) (now (out .entry)) ⌝ }
 {
-    entry::cadences(out, entries)
+    let number = entry::cadences(out, entries);
+    number
 }
 
 // A fresh detector. Number 7.
@@ -365,7 +367,8 @@ pub extern "C" fn desk_detector_new(state: &mut [u8]) -> u8
     ensures { λ r. ⌜ r ≡ newNo (length (now (state .entry))) ⌝ }
     ensures { λ r. ⌜ now (state .exit) ≡ newState r (now (state .entry)) ⌝ }
 {
-    if state.len() < STATE_BYTES {
+    let room = state.len();
+    if room < STATE_BYTES {
         return refusal::SHORT_OUTPUT;
     }
     keep(state, Detector::new());
@@ -378,7 +381,8 @@ pub extern "C" fn desk_detector_reset(state: &mut [u8]) -> u8
     ensures { λ r. ⌜ r ≡ stateNo (length (now (state .entry))) ⌝ }
     ensures { λ r. ⌜ now (state .exit) ≡ resetState r (now (state .entry)) ⌝ }
 {
-    if state.len() < STATE_BYTES {
+    let given = state.len();
+    if given < STATE_BYTES {
         return refusal::SHORT_INPUT;
     }
     keep(state, reset_in(state));
@@ -391,11 +395,14 @@ pub extern "C" fn desk_detector_locked(state: &[u8], locked: &mut u8) -> u8
     ensures { λ r. ⌜ r ≡ stateNo (length (now (state .entry))) ⌝ }
     ensures { λ r. ⌜ now (locked .exit) ≡ lockedByte r (now (state .entry)) (now (locked .entry)) ⌝ }
 {
-    if state.len() < STATE_BYTES {
+    let lent = state.len();
+    if lent < STATE_BYTES {
         return refusal::SHORT_INPUT;
     }
     let detector = outline_in(state);
-    *locked = one_if(detector.locked());
+    let held = detector.locked();
+    let said = one_if(held);
+    *locked = said;
     0
 }
 
@@ -411,7 +418,8 @@ pub extern "C" fn desk_detector_predict(state: &[u8], ahead: u64, cadence: &mut 
     let detector = outline_in(state);
     match detector.predict(ahead) {
         Answer::Gave(foretold) => {
-            *cadence = foretold.number();
+            let found = foretold.number();
+            *cadence = found;
             0
         }
         Answer::Refused(no) => no,
@@ -445,7 +453,8 @@ pub extern "C" fn desk_detector_push_measured(
     let measured = measured_named(present, busy, total, other_busy, other_total);
     match push_counts(state, Parity::named(parity as u32), measured) {
         Answer::Gave(found) => {
-            *cadence = found.number();
+            let given = found.number();
+            *cadence = given;
             0
         }
         Answer::Refused(no) => no,

@@ -13,6 +13,8 @@ use Rattle.plane.proofs.within.Kinds as within-kinds
 use Rattle.plane.proofs.within.Reads as within
 use Rattle.plane.proofs.good_shape.Kinds as good-shape-kinds
 use Rattle.plane.proofs.good_shape.Reads as good-shape
+use Rattle.plane.proofs.shape_of.Kinds as shape-of-kinds
+use Rattle.plane.proofs.shape_of.Reads as shape-of
 use Rattle.plane.proofs.plane_bytes.Kinds as plane-bytes-kinds
 use Rattle.plane.proofs.plane_bytes.Reads as plane-bytes
 use Rattle.plane.proofs.shift_of.Kinds as shift-of-kinds
@@ -63,6 +65,9 @@ within-once κs a x y u v p q = (same p q, refl)
 
 pub good-shape-once : OneAnswer 0 good-shape-kinds.ps good-shape-kinds.r good-shape.Post
 good-shape-once κs a x y u v p q = (same p q, refl)
+
+pub shape-of-once : OneAnswer 0 shape-of-kinds.ps shape-of-kinds.r shape-of.Post
+shape-of-once κs a x y u v p q = (same p q, refl)
 
 pub plane-bytes-once : OneAnswer 0 plane-bytes-kinds.ps plane-bytes-kinds.r plane-bytes.Post
 plane-bytes-once κs a x y u v p q = (same p q, refl)

@@ -5,7 +5,7 @@
 use std::hint::black_box;
 use std::rc::Rc;
 
-use desk::STATE_BYTES;
+use desk::{GridNumbers, PlaneNumbers, STATE_BYTES};
 use differ::random::Random;
 use differ::runs::cadences::{self, Entry};
 use oracle::mediadecoder::es::Format;
@@ -46,11 +46,22 @@ fn pushes(frames: Rc<[Frame]>) -> Side {
     })
 }
 
+/// A planar shape as the calls take it.
+fn grid_of(shape: PlaneNumbers) -> GridNumbers {
+    GridNumbers {
+        width: shape.width,
+        height: shape.height,
+        depth: shape.depth,
+        stride: shape.stride,
+    }
+}
+
 /// Both fields of a picture of noise, against another that is kept.
 pub fn busy(size: Size, depth: u32) -> Contest {
     let input = format!("{size}, {depth} bits, both");
     let sides = move || {
         let (plane, shape) = plane_of(1, size, (depth, 0));
+        let grid = grid_of(shape);
         let store = Random::new(2).bytes(size.pixels() as usize);
         let frames = [1, 2].map(|seed| frame_of(plane_of(seed, size, (depth, 0)).0, size, depth));
         let mut two = pushes(frames.into());
@@ -60,7 +71,7 @@ pub fn busy(size: Size, depth: u32) -> Contest {
                 for parity in 0..2 {
                     let (mut busy, mut total) = (0, 0);
                     taken(desk::busy(
-                        plane, shape, store, parity, &mut busy, &mut total,
+                        plane, grid, store, parity, &mut busy, &mut total,
                     ));
                     black_box((busy, total));
                 }
@@ -78,7 +89,7 @@ pub fn push(size: Size, depth: u32) -> Contest {
     let input = format!("{size}, {depth} bits, two");
     let sides = move || {
         let two = [1, 2].map(|seed| plane_of(seed, size, (depth, 0)));
-        let shape = two[0].1;
+        let grid = grid_of(two[0].1);
         let frames = two.clone().map(|(luma, _)| frame_of(luma, size, depth));
         let mut state = fresh_state();
         let mut store = vec![0; size.pixels() as usize];
@@ -91,7 +102,7 @@ pub fn push(size: Size, depth: u32) -> Contest {
                         &mut state,
                         0,
                         plane,
-                        shape,
+                        grid,
                         &mut store,
                         &mut cadence,
                     ));

@@ -1,12 +1,24 @@
 //! Block counts and the detector by number: crates/filmdesk/src/lib.rt.
 
-use crate::{Parity, PlaneNumbers, Refusal};
+use crate::{Parity, Refusal};
 
 /// Bytes in which a detector is kept between calls.
 pub const STATE_BYTES: usize = 96;
 
 /// Bytes of a measured entry.
 pub const ENTRY_BYTES: usize = 12;
+
+/// A picture's shape: sizes in samples, the stride in bytes. Words are read as
+/// they stand, so that there is no layout: a biplanar luma deeper than 8 bits
+/// goes through readback first.
+#[repr(C)]
+#[derive(Debug, Clone, Copy, PartialEq, Eq)]
+pub struct GridNumbers {
+    pub width: u32,
+    pub height: u32,
+    pub depth: u32,
+    pub stride: u32,
+}
 
 /// What a detector says of a frame; the desk's numbers are 0 to 3.
 #[derive(Debug, Clone, Copy, PartialEq, Eq)]
@@ -43,7 +55,7 @@ unsafe extern "C" {
     fn desk_busy(
         plane: *const u8,
         plane_len: usize,
-        shape: PlaneNumbers,
+        grid: GridNumbers,
         store: *const u8,
         store_len: usize,
         parity: u8,
@@ -84,7 +96,7 @@ unsafe extern "C" {
         parity: u8,
         plane: *const u8,
         plane_len: usize,
-        shape: PlaneNumbers,
+        grid: GridNumbers,
         store: *mut u8,
         store_len: usize,
         cadence: *mut u8,
@@ -97,7 +109,7 @@ unsafe extern "C" {
 #[inline]
 pub fn busy(
     plane: &[u8],
-    shape: PlaneNumbers,
+    grid: GridNumbers,
     store: &[u8],
     parity: u8,
     busy: &mut u64,
@@ -111,7 +123,7 @@ pub fn busy(
         desk_busy(
             plane.as_ptr(),
             length,
-            shape,
+            grid,
             store.as_ptr(),
             room,
             parity,
@@ -208,7 +220,7 @@ pub fn detector_push(
     state: &mut [u8],
     parity: u8,
     plane: &[u8],
-    shape: PlaneNumbers,
+    grid: GridNumbers,
     store: &mut [u8],
     cadence: &mut u8,
 ) -> u8 {
@@ -221,7 +233,7 @@ pub fn detector_push(
             parity,
             plane.as_ptr(),
             plane.len(),
-            shape,
+            grid,
             store.as_mut_ptr(),
             store.len(),
             cadence,
@@ -232,14 +244,14 @@ pub fn detector_push(
 /// [`busy()`] with its answer as a value.
 pub fn counts_of(
     plane: &[u8],
-    shape: PlaneNumbers,
+    grid: GridNumbers,
     store: &[u8],
     field: Parity,
 ) -> Result<Counts, Refusal> {
     let mut counts = Counts { busy: 0, total: 0 };
     Refusal::check(busy(
         plane,
-        shape,
+        grid,
         store,
         field as u8,
         &mut counts.busy,
@@ -322,11 +334,11 @@ impl Detector {
         &mut self,
         first: Parity,
         plane: &[u8],
-        shape: PlaneNumbers,
+        grid: GridNumbers,
     ) -> Result<Cadence, Refusal> {
         // A plane that suffices for its shape has at least a byte a sample; for
         // another there is nothing to keep.
-        let samples = u64::from(shape.width) * u64::from(shape.height);
+        let samples = u64::from(grid.width) * u64::from(grid.height);
         if self.store.len() as u64 <= samples && samples <= plane.len() as u64 {
             self.store.resize(samples as usize, 0);
         }
@@ -335,7 +347,7 @@ impl Detector {
             &mut self.state,
             first as u8,
             plane,
-            shape,
+            grid,
             &mut self.store,
             &mut cadence,
         ))?;
@@ -346,7 +358,7 @@ impl Detector {
 #[cfg(test)]
 mod tests {
     use super::{
-        Cadence, Counts, Detector, PlaneNumbers, Refusal, STATE_BYTES, cadences, counts_of,
+        Cadence, Counts, Detector, GridNumbers, Refusal, STATE_BYTES, cadences, counts_of,
         detector_locked, detector_new, detector_predict, detector_push, detector_push_measured,
         detector_reset,
     };
@@ -422,12 +434,11 @@ mod tests {
         assert_eq!(out, [9; 14]);
     }
 
-    const SHAPE: PlaneNumbers = PlaneNumbers {
+    const GRID: GridNumbers = GridNumbers {
         width: 64,
         height: 16,
         depth: 8,
         stride: 64,
-        layout: 0,
     };
 
     /// The cards of document 01: 33 of 128 differ, and 32.
@@ -440,7 +451,7 @@ mod tests {
                 // The columns of the second block, and the rows of the bottom field.
                 plane[64 * (2 * (at / 16) + 1) + 16 + at % 16] = code;
             }
-            let counts = counts_of(&plane, SHAPE, &store, field).expect("all within");
+            let counts = counts_of(&plane, GRID, &store, field).expect("all within");
             (counts.busy, counts.total)
         };
         assert_eq!(of(33, 109, Bottom), (1, 4));
@@ -448,14 +459,30 @@ mod tests {
         assert_eq!(of(33, 108, Bottom), (0, 4));
         assert_eq!(of(32, 109, Bottom), (0, 4));
         assert_eq!(of(33, 109, Top), (0, 4));
-        let refused = |plane: &[u8], shape, store: &[u8]| {
-            let found = counts_of(plane, shape, store, Top);
+        let refused = |plane: &[u8], grid, store: &[u8]| {
+            let found = counts_of(plane, grid, store, Top);
             found.expect_err("refused").number()
         };
-        assert_eq!(refused(&store, PlaneNumbers { layout: 4, ..SHAPE }, &[]), 3);
-        assert_eq!(refused(&store, PlaneNumbers { depth: 7, ..SHAPE }, &[]), 4);
-        assert_eq!(refused(&store[1..], SHAPE, &store), 6);
-        assert_eq!(refused(&store, SHAPE, &store[1..]), 6);
+        assert_eq!(refused(&store, GridNumbers { depth: 7, ..GRID }, &[]), 4);
+        assert_eq!(refused(&store[1..], GRID, &store), 6);
+        assert_eq!(refused(&store, GRID, &store[1..]), 6);
+    }
+
+    /// As the original reads it, and as document 01 says: ten bits go right by
+    /// two, whatever a biplanar frame would have its luma do first.
+    #[test]
+    fn words_are_read_as_they_stand() {
+        let grid = GridNumbers {
+            width: 1,
+            height: 1,
+            depth: 10,
+            stride: 2,
+        };
+        let of = |word: u16| {
+            let counts = counts_of(&word.to_le_bytes(), grid, &[0], Top).expect("all within");
+            (counts.busy, counts.total)
+        };
+        assert_eq!((of(0x0C00), of(0x0030)), ((0, 1), (1, 1)));
     }
 
     #[test]
@@ -468,16 +495,16 @@ mod tests {
             bottom ^= if trailing > 0 { 200 } else { 0 };
             let rows = (0..16).flat_map(|y| [if y % 2 == 0 { top } else { bottom }; 64]);
             let plane: Vec<u8> = rows.collect();
-            let found = detector.push(Top, &plane, SHAPE);
+            let found = detector.push(Top, &plane, GRID);
             assert_eq!(found, Ok(ANSWERS[at]), "entry {at}");
             if at == 10 {
                 let was = detector.clone();
-                let short = detector.push(Top, &plane[1..], SHAPE);
+                let short = detector.push(Top, &plane[1..], GRID);
                 assert_eq!(short.map_err(Refusal::number), Err(6));
-                let large = PlaneNumbers {
+                let large = GridNumbers {
                     width: u32::MAX,
                     height: u32::MAX,
-                    ..SHAPE
+                    ..GRID
                 };
                 let large = detector.push(Top, &plane, large);
                 assert_eq!(large.map_err(Refusal::number), Err(4));
@@ -512,11 +539,11 @@ mod tests {
             let mut store = [7; 64 * 16];
             let was = state;
             cadence = 9;
-            let number = detector_push(&mut state, 0, &plane, SHAPE, &mut store, &mut cadence);
+            let number = detector_push(&mut state, 0, &plane, GRID, &mut store, &mut cadence);
             assert_eq!((number, cadence, state), (6, 9, was));
             assert_eq!(store, [7; 64 * 16]);
             assert_eq!(detector_reset(&mut state), 0);
-            let number = detector_push(&mut state, 0, &plane, SHAPE, &mut store, &mut cadence);
+            let number = detector_push(&mut state, 0, &plane, GRID, &mut store, &mut cadence);
             assert_eq!((number, cadence, store), (0, 0, plane));
         }
     }

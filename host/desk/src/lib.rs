@@ -26,7 +26,7 @@ pub use colours::{Conversion, luma, luma_of, quantise, rgb_of, to_rgb};
 pub use combs::{comb, comb_of, comb_rgba, comb_rgba_of};
 pub use fields::{Parity, first_field, first_parity};
 pub use films::{
-    Cadence, Counts, Detector, ENTRY_BYTES, STATE_BYTES, busy, cadences, counts_of,
+    Cadence, Counts, Detector, ENTRY_BYTES, GridNumbers, STATE_BYTES, busy, cadences, counts_of,
     detector_locked, detector_new, detector_predict, detector_push, detector_push_measured,
     detector_reset,
 };

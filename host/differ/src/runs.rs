@@ -111,8 +111,8 @@ pub const RUNS: &[Run] = &[
     Run {
         name: busy::NAME,
         about: "planes up to 81 by 81, mostly around the edges of blocks, of which about a quarter \
-                of a block's samples differ by about 8; large planes; codes, shapes and \
-                lengths past their bounds",
+                of a block's samples differ by about 8; words with codes in their high bits; large \
+                planes; parities, shapes and lengths past their bounds",
         run: busy::run,
     },
     Run {

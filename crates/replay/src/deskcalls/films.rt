@@ -2,24 +2,34 @@
 // from record to record in the program's own arrays. How the state's bytes stand for a detector is the
 // desk's own affair, so they are not compared; the kept frame is. A record has in front how many bytes of
 // the state are lent. Assumes nothing.
-use crate::deskcalls::planes;
 use answers::lent;
+use filmdesk::GridNumbers;
+
+// The four numbers of a picture's shape from number k on.
+fn grid(answer: &[u8], k: u8) -> GridNumbers {
+    GridNumbers {
+        width: answers::word(answer, k),
+        height: answers::word(answer, std::num::wrapping_add_u8(k, 1)),
+        depth: answers::word(answer, std::num::wrapping_add_u8(k, 2)),
+        stride: answers::word(answer, std::num::wrapping_add_u8(k, 3)),
+    }
+}
 
 fn busy(answer: &[u8]) -> bool {
     let mut count = lent::NUMBER;
     let mut total = lent::NUMBER;
     let no = filmdesk::desk_busy(
-        answers::bytes(answer, 9, 0),
-        planes::shape(answer, 0),
-        answers::bytes(answer, 9, 1),
-        answers::byte(answer, 5),
+        answers::bytes(answer, 8, 0),
+        grid(answer, 0),
+        answers::bytes(answer, 8, 1),
+        answers::byte(answer, 4),
         &mut count,
         &mut total,
     );
-    answers::whole(answer, 9, 2)
-        & answers::same_byte(answer, 6, no)
-        & answers::same(answer, 7, count)
-        & answers::same(answer, 8, total)
+    answers::whole(answer, 8, 2)
+        & answers::same_byte(answer, 5, no)
+        & answers::same(answer, 6, count)
+        & answers::same(answer, 7, total)
 }
 
 fn cadences_to(answer: &[u8], out: &mut [u8]) -> bool {
@@ -104,22 +114,22 @@ fn push_to(answer: &[u8], state: &mut [u8], store: &mut [u8]) -> bool {
     let no = filmdesk::desk_detector_push(
         state,
         answers::byte(answer, 1),
-        answers::bytes(answer, 9, 0),
-        planes::shape(answer, 2),
+        answers::bytes(answer, 8, 0),
+        grid(answer, 2),
         store,
         &mut cadence,
     );
-    answers::whole(answer, 9, 2)
-        & answers::same_byte(answer, 7, no)
-        & answers::same_byte(answer, 8, cadence)
-        & check::same(store, answers::bytes(answer, 9, 1))
+    answers::whole(answer, 8, 2)
+        & answers::same_byte(answer, 6, no)
+        & answers::same_byte(answer, 7, cadence)
+        & check::same(store, answers::bytes(answer, 8, 1))
 }
 
 fn detector_push(answer: &[u8], state: &mut [u8], store: &mut [u8]) -> bool {
     let asked = answers::number(answer, 0);
     let n = lent::part(asked, state.len());
     let there = asked <= state.len() as u64;
-    let m = answers::room(answers::bytes(answer, 9, 1), store.len());
+    let m = answers::room(answers::bytes(answer, 8, 1), store.len());
     push_to(answer, &mut state[0..n], &mut store[0..m]) & there
 }
 

@@ -5,10 +5,11 @@ use desk::PlaneNumbers;
 use super::{Lent, floats, in_bounds, lowest, needed};
 
 /// "Counts are [...] for each field against the same parity of the kept frame",
-/// which is kept in "width times height bytes".
+/// which is kept in "width times height bytes". There is no layout: the shape is
+/// planar.
 pub fn busy(shape: PlaneNumbers, length: usize, store: usize, parity: u8) -> u8 {
     lowest(&[
-        (3, shape.layout > 3 || parity > 1),
+        (3, parity > 1),
         (4, !in_bounds(shape)),
         (6, (length as u64) < needed(shape)),
         (6, (store as u64) < floats(shape)),
@@ -73,7 +74,7 @@ pub fn detector_push(
     taken: u64,
 ) -> u8 {
     lowest(&[
-        (3, shape.layout > 3 || parity > 1),
+        (3, parity > 1),
         (4, !in_bounds(shape)),
         (6, state < STATE || store < kept),
         (6, (length as u64) < needed(shape)),
@@ -104,7 +105,6 @@ mod tests {
         assert_eq!((busy(SHAPE, 20, 10, 1), busy(SHAPE, 21, 9, 1)), (6, 6));
         assert_eq!(busy(PlaneNumbers { depth: 17, ..SHAPE }, 0, 0, 0), 4);
         assert_eq!(busy(PlaneNumbers { depth: 17, ..SHAPE }, 0, 0, 2), 3);
-        assert_eq!(busy(PlaneNumbers { layout: 4, ..SHAPE }, 21, 10, 0), 3);
 
         let entries = |parity, present| [[0; 12], [parity, 0, present, 0, 0, 0, 0, 0, 0, 0, 0, 0]];
         let of = |parity, present, cut: usize, out| {

@@ -268,7 +268,7 @@ impl Case for Blocks {
             let [_, busy, _, total, _] = &mut places;
             let given = desk::busy(
                 self.given.lent(),
-                shape,
+                film::grid_of(shape),
                 lent.lent(),
                 self.parity,
                 busy,
@@ -287,9 +287,8 @@ impl Case for Blocks {
         same("whether plane and store are as they were", kept, true)?;
 
         if let Some(counts) = wanted {
-            let luma = film::luma_of(self.given.plane(), shape);
             let below = Below {
-                luma: &luma,
+                luma: self.given.plane(),
                 depth: shape.depth,
                 then: &then,
                 parity: self.parity,
@@ -398,11 +397,15 @@ fn shaped(random: &mut Random, width: u32, height: u32) -> Given {
             random.between(9, 16) as u32
         },
         stride: 0,
-        layout: *random.pick(&[0, 0, 0, 1, 2, 3]),
+        layout: 0,
     };
     shape.stride = judge::row(shape) as u32 + *random.pick(&[0, 0, 1, 3, 16]);
     let length = judge::needed(shape) as usize + *random.pick(&[0, 0, 1, 64]);
-    Given::new(shape, length, Contents::picture(random, shape))
+    // The words of a biplanar luma too, whose codes stand in the high bits: neither
+    // side is told.
+    let layout = *random.pick(&[0, 0, 1]);
+    let contents = Contents::picture(random, desk::PlaneNumbers { layout, ..shape });
+    Given::new(shape, length, contents)
 }
 
 /// Around the edges of blocks.
@@ -418,7 +421,7 @@ fn size(random: &mut Random) -> (u32, u32) {
 }
 
 fn spoilt(random: &mut Random) -> Blocks {
-    let given = given::random(random, 40, 40, 4);
+    let given = given::random(random, 40, 40, 1);
     let samples = judge::floats(given.shape);
     let mut case = Blocks {
         given,
@@ -464,11 +467,24 @@ pub fn run(random: &mut Random) -> Result<Tally, Failure> {
         }
     });
     let refused = (0..8_000).map(move |_| spoilt(&mut for_spoilt));
+    // Ten bits that stand in the high bits of a word: read as it stands, it goes
+    // right by two, and 0 is kept of it.
+    let high = std::iter::once(Blocks {
+        given: Given::new(
+            read::numbers(1, 1, 10, 2, 0),
+            2,
+            Contents::Listed(vec![0x00, 0x0C]),
+        ),
+        store: Store::Listed(vec![0]),
+        room: 1,
+        parity: 0,
+        total: true,
+    });
     let least = Least {
         accepted: 20_000,
         refused: 4_000,
     };
-    Tally::of(NAME, least, others.chain(large).chain(refused))
+    Tally::of(NAME, least, high.chain(others).chain(large).chain(refused))
 }
 
 /// Answers of small planes that the Rust itself confirms, without an end; one in
@@ -485,9 +501,8 @@ pub(crate) fn answers(mut random: Random) -> impl Iterator<Item = Answer> {
         let then = case.store();
         let (number, counts) = case.wanted(&then);
         if let Some(counts) = counts {
-            let luma = film::luma_of(case.given.plane(), case.given.shape);
             let below = Below {
-                luma: &luma,
+                luma: case.given.plane(),
                 depth: case.given.shape.depth,
                 then: &then,
                 parity: case.parity,
@@ -502,7 +517,7 @@ pub(crate) fn answers(mut random: Random) -> impl Iterator<Item = Answer> {
             }
         }
         let answer = Answer::of(Call::Busy)
-            .numbers(read::listed(case.given.shape))
+            .numbers(film::listed(case.given.shape))
             .number(case.parity)
             .gives(number)
             .count(counts.map(|(busy, _)| busy))

@@ -14,9 +14,9 @@ use desk::PlaneNumbers;
 use oracle::video::telecine::Detector;
 
 use super::film::{
-    Film, Look, PATTERN, SYMBOLS, Seen, Shown, Symbol, cadence_number, parity_named,
+    Film, Look, PATTERN, SYMBOLS, Seen, Shown, Symbol, cadence_number, grid_of, listed,
+    parity_named,
 };
-use super::read;
 use crate::answers::{self, Answer, DETECTOR_ROOM, FILL, STORE_ROOM};
 use crate::case::{Case, Difference, Failure, Least, Tally, same, smaller_numbers};
 use crate::judge;
@@ -230,7 +230,7 @@ impl Sides {
                     &mut self.state[GUARD..][..state],
                     parity,
                     shown.lent(),
-                    shown.shape,
+                    grid_of(shown.shape),
                     &mut self.store[GUARD..][..store],
                     &mut cadence,
                 );
@@ -447,9 +447,7 @@ impl Call {
                 store,
                 state,
             } => {
-                let PlaneNumbers { layout, depth, .. } = shown.shape;
                 let mut shapes = vec![PlaneNumbers {
-                    layout: 0,
                     depth: 8,
                     ..shown.shape
                 }];
@@ -467,7 +465,7 @@ impl Call {
                         ..shown.shape
                     });
                 }
-                if (layout, depth) == (0, 8) {
+                if shown.shape.depth == 8 {
                     shapes.remove(0);
                 }
                 for mut shape in shapes {
@@ -775,7 +773,7 @@ fn shape(random: &mut Random) -> PlaneNumbers {
             random.between(9, 16) as u32
         },
         stride: 0,
-        layout: *random.pick(&[0, 0, 0, 1, 2, 3]),
+        layout: 0,
     };
     shape.stride = judge::row(shape) as u32 + *random.pick(&[0, 0, 1, 5, 16]);
     shape
@@ -845,16 +843,15 @@ fn shown_film(
         let shown = Rc::new(Shown::new(shape, needed + more, looks, random.next()));
         calls.push(push(seen.first, &shown));
         if random.one_in(restless) {
-            match random.below(6) {
+            match random.below(5) {
                 0 => match random.below(4) {
                     0 => shape = shape_of(random),
                     1 => shape.height = (shape.height + random.below(3) as u32).max(2) - 1,
                     2 => shape.width = (shape.width + random.below(3) as u32).max(2) - 1,
                     _ => shape.depth = random.between(8, 16) as u32,
                 },
-                1 => shape.layout = random.below(4) as u32,
-                2 => calls.push(RESET),
-                3 => late.start(random, &mut calls),
+                1 => calls.push(RESET),
+                2 => late.start(random, &mut calls),
                 _ => calls.push(refused_push(random, seen.first, &shown)),
             }
             shape.stride = shape.stride.max(judge::row(shape) as u32);
@@ -866,22 +863,21 @@ fn shown_film(
     }
 }
 
-/// A picture of which a code, the shape, the length, the store or the state is
+/// A picture of which the parity, the shape, the length, the store or the state is
 /// wrong, or two of them.
 fn refused_push(random: &mut Random, first: u8, shown: &Rc<Shown>) -> Call {
     let samples = judge::floats(shown.shape);
     let mut wrong = Shown::new(shown.shape, shown.length, shown.looks, shown.noise);
     let (mut parity, mut store, mut state) = (first, ALL, ALL);
     for _ in 0..random.between(1, 2) {
-        match random.below(9) {
+        match random.below(8) {
             0 => parity = *random.pick(&[2, 3, 255]),
-            1 => wrong.shape.layout = *random.pick(&[4, 256, u32::MAX]),
-            2 => wrong.shape.depth = *random.pick(&[0, 7, 17, 264]),
-            3 => wrong.shape.width = *random.pick(&[0, 8193, 65_537]),
-            4 => wrong.shape.height = *random.pick(&[0, 4353, 65_537]),
-            5 => wrong.length = (judge::needed(shown.shape) as usize).saturating_sub(1),
-            6 => store = samples.saturating_sub(1) as usize,
-            7 => store = random.below(samples.max(1)) as usize,
+            1 => wrong.shape.depth = *random.pick(&[0, 7, 17, 264]),
+            2 => wrong.shape.width = *random.pick(&[0, 8193, 65_537]),
+            3 => wrong.shape.height = *random.pick(&[0, 4353, 65_537]),
+            4 => wrong.length = (judge::needed(shown.shape) as usize).saturating_sub(1),
+            5 => store = samples.saturating_sub(1) as usize,
+            6 => store = random.below(samples.max(1)) as usize,
             _ => state = *random.pick(&[0, 1, 100, STATE - 1]),
         }
     }
@@ -1072,7 +1068,7 @@ impl Recorder {
                 let answer = Answer::of(answers::Call::DetectorPush)
                     .number(state as u64)
                     .number(parity)
-                    .numbers(read::listed(shown.shape))
+                    .numbers(listed(shown.shape))
                     .gives(number)
                     .byte(cadence)
                     .slice(shown.lent())

@@ -4,11 +4,11 @@
 use std::cell::OnceCell;
 use std::fmt;
 
-use desk::PlaneNumbers;
+use desk::{GridNumbers, PlaneNumbers};
 use oracle::mediadecoder::es::Format;
 use oracle::mediadecoder::video::{Frame, Plane};
 use oracle::video::field::{Cadence, Parity};
-use oracle::video::filter::{Planes, Samples};
+use oracle::video::filter::Samples;
 
 use crate::judge;
 use crate::lent::Between;
@@ -35,44 +35,26 @@ pub fn cadence_number(cadence: Cadence) -> u8 {
 
 // ---- Pictures
 
-/// A plane within the bounds as the Rust's detector reads luma: planar, and not
-/// shifted. One of another layout is first read by the Rust's own `Samples`.
-pub fn luma_of(plane: &Plane, shape: PlaneNumbers) -> Plane {
+/// The numbers of a planar shape as the calls take them, which have no layout.
+pub fn grid_of(shape: PlaneNumbers) -> GridNumbers {
     let PlaneNumbers {
         width,
         height,
-        layout,
-        ..
+        depth,
+        stride,
+        layout: _,
     } = shape;
-    if layout == 0 {
-        return plane.clone();
-    }
-    let samples = samples_of(plane, shape);
-    let places = || (0..height as usize).flat_map(|y| (0..width as usize).map(move |x| (x, y)));
-    let codes = places().map(|(x, y)| samples.code(x, y) as u16);
-    let (data, size): (Vec<u8>, usize) = if shape.depth > 8 {
-        (codes.flat_map(u16::to_le_bytes).collect(), 2)
-    } else {
-        (codes.map(|code| code as u8).collect(), 1)
-    };
-    Plane {
-        data,
-        stride: width as usize * size,
-        width: width as usize,
-        height: height as usize,
+    GridNumbers {
+        width,
+        height,
+        depth,
+        stride,
     }
 }
 
-fn samples_of(plane: &Plane, shape: PlaneNumbers) -> Samples<'_> {
-    let depth = shape.depth as u8;
-    let biplanar = || Planes::biplanar(plane, plane, depth);
-    match shape.layout {
-        0 => Samples::new(plane, depth),
-        1 => biplanar().y,
-        2 => biplanar().cb,
-        3 => biplanar().cr,
-        other => unreachable!("the judge refuses layout {other}"),
-    }
+/// The same in their order.
+pub fn listed(shape: PlaneNumbers) -> [u32; 4] {
+    [shape.width, shape.height, shape.depth, shape.stride]
 }
 
 /// A frame as the Rust takes it: nothing but luma, and the field that leads.
@@ -93,7 +75,7 @@ pub fn frame_of(luma: Plane, depth: u32, first: u8) -> Frame {
 /// "Luma is kept as 8 bits: codes above 8 bits go right by depth - 8, modulo
 /// 256": the frame that a store keeps, row by row.
 pub fn kept_of(plane: &Plane, shape: PlaneNumbers) -> Vec<u8> {
-    let samples = samples_of(plane, shape);
+    let samples = Samples::new(plane, shape.depth as u8);
     let mut kept = Vec::with_capacity(shape.width as usize * shape.height as usize);
     for y in 0..shape.height as usize {
         for x in 0..shape.width as usize {
@@ -135,7 +117,7 @@ impl Look {
     }
 }
 
-/// A picture that is put to a detector: the shape that is said of it, which
+/// A picture that is put to a detector: the planar shape that is said of it, which
 /// need not be within the bounds, a length, which need not suffice, and its
 /// fields, top and bottom. Padding, and bits below the kept eight or above the
 /// depth, are noise.
@@ -195,18 +177,16 @@ impl Shown {
             height,
             depth,
             stride,
-            layout,
+            layout: _,
         } = self.shape;
-        if !judge::in_bounds(self.shape) || layout > 3 {
+        if !judge::in_bounds(self.shape) {
             return bytes;
         }
         let size = if depth > 8 { 2 } else { 1 };
-        let components = judge::components(layout) as usize;
-        let second = usize::from(layout == 3);
         for y in 0..height {
             for x in 0..width {
                 let kept = u16::from(self.looks[(y % 2) as usize].at(width, x, y / 2));
-                let at = y as usize * stride as usize + (x as usize * components + second) * size;
+                let at = y as usize * stride as usize + x as usize * size;
                 let Some(place) = bytes.get_mut(at..at + size) else {
                     return bytes;
                 };
@@ -215,9 +195,8 @@ impl Shown {
                     continue;
                 }
                 let noise = u16::from_le_bytes([place[0], place[1]]);
-                let shift = if layout == 0 { depth - 8 } else { 8 };
-                let own = 0xFF << shift;
-                let code = kept << shift | noise & !own;
+                let own = 0xFF << (depth - 8);
+                let code = kept << (depth - 8) | noise & !own;
                 place.copy_from_slice(&code.to_le_bytes());
             }
         }
@@ -229,18 +208,16 @@ impl Shown {
             let bytes = self.bytes();
             let rattle = Between::noise(&bytes);
             let shape = self.shape;
-            let right = judge::in_bounds(shape)
-                && shape.layout <= 3
-                && self.length as u64 >= judge::needed(shape);
+            let right =
+                judge::in_bounds(shape) && self.length as u64 >= judge::needed(shape);
             let rust = right.then(|| {
                 let plane = Plane {
                     data: bytes,
                     stride: shape.stride as usize,
-                    width: shape.width as usize * judge::components(shape.layout) as usize,
+                    width: shape.width as usize,
                     height: shape.height as usize,
                 };
-                let luma = luma_of(&plane, shape);
-                let frames = [0, 1].map(|first| frame_of(luma.clone(), shape.depth, first));
+                let frames = [0, 1].map(|first| frame_of(plane.clone(), shape.depth, first));
                 (frames, kept_of(&plane, shape))
             });
             Sides { rattle, rust }
