@@ -1,4 +1,6 @@
 -- Laws that the proofs of this crate share, and the claims. Assumes nothing.
 pub mod Texts
 pub mod Decimal
+pub mod Stepping
+pub mod Served
 pub mod Claims

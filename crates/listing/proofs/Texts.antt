@@ -5,7 +5,7 @@ use mathlib.Core.Path.{_≡_, _∙_}
 use mathlib.Core.List.{List, [], _++_, append-assoc}
 use lib.ListN.{length, take, drop, length-append, take-append-drop}
 use lib.Seq.{paste, take-append-seam, drop-append-add, drop-drop, take-length, take-append-add, length-take-le}
-use Rattle.listing.specs.Listing.{put}
+use Rattle.pages.specs.Pages.{put}
 
 -- ---- a text, and another behind it
 seam : (front x y back : List ℕ)

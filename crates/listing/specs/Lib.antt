@@ -1,4 +1,5 @@
--- The definitions that the contracts of `listing` cite, document 01's example, and the claims. Assumes nothing.
+-- The definitions that the contracts of `listing` cite, the program's steps, document 01's example, and the claims. Assumes nothing.
 pub mod Listing
+pub mod Steps
 pub mod Example
 pub mod Claims

@@ -3,11 +3,12 @@ use Prim.Native.Nat.{ℕ, zero, suc, _+_, _/_, _%_}
 use mathlib.Core.Bool.{Bool, true, false, cond}
 use mathlib.Core.List.{List, [], _∷_, _++_}
 use lib.Dec.{leb, ltb}
-use lib.ListN.{length, take, drop}
+use lib.ListN.{length}
 use Rattle.field.specs.declared.Cadence.{Cadence}
 use Rattle.field.specs.declared.Cadence.the-variants.{None, Whole, Drop, Spanning}
 use Rattle.reel.specs.declared.Said.{Said}
 use Rattle.reel.specs.declared.Said.the-variants.{Quiet, Frame, Totals, Fault}
+use Rattle.pages.specs.Pages.{put}
 use Rattle.reel.specs.Reel.{saidOf}
 
 -- ---- numbers and words
@@ -74,10 +75,6 @@ unfoldable pub listingOf : List ℕ → List ℕ
 listingOf bytes = textOfAll (saidOf bytes)
 
 -- ---- a line in a lent buffer
-
--- a text written over a list from a place on
-unfoldable pub put : List ℕ → ℕ → List ℕ → List ℕ
-put list at text = take at list ++ (text ++ drop (at + length text) list)
 
 -- No line is longer than 128 bytes. Where fewer are left, nothing is written.
 abbrev pub lineFits : List ℕ → ℕ → Bool

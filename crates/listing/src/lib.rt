@@ -1,11 +1,19 @@
-// What a reel file says, as text (document 01, "Reel file and listing"). Assumes nothing.
+// What a reel file says, as text (document 01, "Reel file and listing"), and the program `cadence` a
+// step at a time. Assumes nothing.
 ghost use mathlib.Core.Path.{_≡_};
 ghost use mathlib.Core.List.{_++_};
 ghost use Prim.Native.Nat.{_+_, _≤_, max};
 ghost use lib.Dec.{leb};
 ghost use lib.ListN.{length};
-ghost use Rattle.listing.specs.Listing.{decimalOf, cadenceWord, lockEnd, textOf, put, putLine, lineEnds};
+ghost use Rattle.listing.specs.Listing.{decimalOf, cadenceWord, lockEnd, textOf, putLine, lineEnds};
+ghost use Rattle.listing.specs.Steps.{reelMachine, startLister, cameLister, programOf, askFrom, stepFrom};
+ghost use Rattle.pages.specs.declared.Ask.the-variants.{Unit};
+ghost use Rattle.pages.specs.Pages.{put};
+ghost use Rattle.pages.specs.Run.{steppedBy};
 use field::Cadence;
+use pages::Ask;
+use pages::Held;
+use reel::Reel;
 use reel::Said;
 use reel::Tally;
 
@@ -126,4 +134,124 @@ pub fn write(out: &mut [u8], at: usize, said: Said) -> usize
         return line(out, at, said);
     }
     at
+}
+
+// ---- the program, a step at a time
+
+// What the program `cadence` has between two steps, beside its buffer, its store and its page.
+pub struct Lister {
+    pub reel: Reel,
+    // What of the buffer is held.
+    pub held: Held,
+    // How much of the page is used.
+    pub used: usize,
+    // Whether the input has ended.
+    pub ended: bool,
+}
+
+// What a step leaves, and what has to be done before the next one.
+pub struct Step {
+    pub lister: Lister,
+    pub ask: Ask,
+}
+
+impl Lister {
+    pub fn start() -> Lister
+        ensures { λ r. ⌜ r ≡ startLister ⌝ }
+    {
+        let reel = Reel::start();
+        let held = Held::nothing();
+        Lister {
+            reel: reel,
+            held: held,
+            used: 0,
+            ended: false,
+        }
+    }
+
+    // After a read put n bytes into the buffer, behind what is held; where none came, the input has ended.
+    pub fn came(self, buffer: &[u8], n: usize) -> Lister
+        ensures { λ r. ⌜ r ≡ cameLister self (length (now (buffer .entry))) n ⌝ }
+    {
+        let reel = self.reel;
+        let old = self.held;
+        let held = old.came(buffer, n);
+        Lister {
+            reel: reel,
+            held: held,
+            used: self.used,
+            ended: n == 0,
+        }
+    }
+
+    // The next unit is read, and its line written.
+    fn unit(self, buffer: &[u8], store: &mut [u8], page: &mut [u8]) -> Lister
+        requires { ⌜ self .used + 128 ≤ length (now page) ⌝ }
+        ensures { λ r. ⌜ programOf r (now (buffer .entry)) (now (store .exit)) (now (page .exit)) ≡ steppedBy reelMachine Unit (programOf self (now (buffer .entry)) (now (store .entry)) (now (page .entry))) ⌝ }
+    {
+        let reel = self.reel;
+        let old = self.held;
+        let used = self.used;
+        let want = reel.want() as usize;
+        let next = reel.next(store, old.unit(buffer, want));
+        let then = next.reel;
+        let said = next.said;
+        let end = line(page, used, said);
+        let held = old.without(want);
+        Lister {
+            reel: then,
+            held: held,
+            used: end,
+            ended: self.ended,
+        }
+    }
+
+    // One step: a unit is read and its line written, or what is held moves to the front for a read, or
+    // the page is given out to be written.
+    pub fn step(self, buffer: &mut [u8], store: &mut [u8], page: &mut [u8]) -> Step
+        ensures { λ r. ⌜ r .ask ≡ askFrom self (now (buffer .entry)) (now (store .entry)) (now (page .entry)) ⌝ }
+        ensures { λ r. ⌜ programOf (r .lister) (now (buffer .exit)) (now (store .exit)) (now (page .exit)) ≡ stepFrom self (now (buffer .entry)) (now (store .entry)) (now (page .entry)) ⌝ }
+    {
+        let reel = self.reel;
+        let held = self.held;
+        let used = self.used;
+        let ended = self.ended;
+        let have = held.count(buffer);
+        let want = reel.want() as usize;
+        let ask = pages::next(have, ended, want, used, 128, page.len());
+        match ask {
+            Ask::Unit => {
+                let lister = self.unit(buffer, store, page);
+                Step {
+                    lister: lister,
+                    ask: ask,
+                }
+            }
+            Ask::Read(_) => {
+                let front = held.front(buffer);
+                Step {
+                    lister: Lister {
+                        reel: reel,
+                        held: front,
+                        used: used,
+                        ended: ended,
+                    },
+                    ask: ask,
+                }
+            }
+            Ask::Write(_) => Step {
+                lister: Lister {
+                    reel: reel,
+                    held: held,
+                    used: 0,
+                    ended: ended,
+                },
+                ask: ask,
+            },
+            Ask::Stop => Step {
+                lister: self,
+                ask: ask,
+            },
+        }
+    }
 }

@@ -1,15 +1,19 @@
--- Laws of what is held, a part of a list, and of texts put into a list one after another. Assumes nothing.
+-- Laws of what is held, a part of a list, and of what is asked for. Assumes nothing.
 use Prim.Native.Nat.{ℕ, zero, suc, _+_, _-_, _≤_, _<_, min}
 use native.Mathlib.Nat.{add-assoc, add-comm, add-zero, zero-add, zero-sub}
 use native.Mathlib.Omega.{arith}
 use native.Mathlib.Numerals.{unary-clauses, add-one}
 use mathlib.Core.Path.{_≡_, refl, sym, ap, _∙_}
-use mathlib.Core.Logic.{_⊎_, inl, inr}
+use mathlib.Core.Bool.{Bool, true, false, cond, _||_, true≢false}
 use mathlib.Core.List.{List, [], _∷_, _++_, append-assoc}
+use lib.Dec.{leb, eqb}
 use lib.ListN.{length, take, drop, getD, set, length-append, length-take, length-drop, take-append-drop}
 use lib.Seq.{slice, paste, take-all, take-length, take-nil, drop-nil, take-take, take-append-seam, take-append-add, drop-append-add, drop-drop, paste-suc, drop-paste, getD-drop, length-take-le}
 use Rattle.laws.specs.Rows.{over}
-use Rattle.pages.specs.Pages.{put}
+use borrow.Author.Tests.{leb-true}
+use Rattle.pages.specs.declared.Ask.{Ask}
+use Rattle.pages.specs.declared.Ask.the-variants.{Unit, Read, Write, Stop}
+use Rattle.pages.specs.Pages.{askOf}
 
 -- ---- a list of no elements
 
@@ -85,3 +89,26 @@ fewer (suc n) (suc k) (x ∷ l) h = simp unary-clauses (fewer n k l (omega (arit
 -- what is left of what is held after n
 pub left : (f t n : ℕ) (l : List ℕ) → slice (f + min n (t - f)) t l ≡ drop n (slice f t l)
 left f t n l = sym (drop-drop (min n (t - f)) f (take t l)) ∙ fewer n (t - f) (slice f t l) (rw length-part (omega arith))
+
+-- ---- a unit is asked for only where the page has room for it
+
+abbrev isUnit : Ask → Bool
+isUnit Unit = true
+isUnit (Read from) = false
+isUnit (Write n) = false
+isUnit Stop = false
+
+no-unit : (a : Ask) → isUnit a ≡ false → a ≡ Unit → ⊥
+no-unit a f e = true≢false (ap isUnit (sym e) ∙ f)
+
+roomy : (done empty room ready : Bool) (have used : ℕ) → cond done (cond empty Stop (Write used)) (cond room (cond ready Unit (Read have)) (Write used)) ≡ Unit
+    → room ≡ true
+roomy done empty true ready have used e = refl
+roomy true true false ready have used e = absurd (no-unit Stop refl e)
+roomy true false false ready have used e = absurd (no-unit (Write used) refl e)
+roomy false empty false ready have used e = absurd (no-unit (Write used) refl e)
+
+pub unit-room : (have : ℕ) (ended : Bool) (want used most page : ℕ) → askOf have ended want used most page ≡ Unit → used + most ≤ page
+unfolding askOf
+unit-room have ended want used most page e =
+    leb-true (used + most) page (roomy (eqb want 0) (eqb used 0) (leb (used + most) page) (ended || leb want have) have used e)
