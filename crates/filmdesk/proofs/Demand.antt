@@ -23,7 +23,7 @@ use Rattle.filmdesk.specs.Kept.{numberIf, detectorIn}
 use Rattle.filmdesk.specs.Film.{stateNo, predictStateNo}
 use Rattle.filmdesk.specs.History.{Given, picture, counts, Call, new, push, reset, Lent, numberIn, byteIn, numberOf, next, after, named, frameOf, byteOf, callsOf}
 use Rattle.filmdesk.specs.Claims.{RefusedLeaves, TooShort, BytesStay, RefusalKnown, ThirdDemand, TellsLock, LockedOverCalls, PredictOverCalls}
-use Rattle.filmdesk.proofs.Claims.{found-again, fresh-sized, reset-sized}
+use Rattle.filmdesk.proofs.States.{found-again, fresh-sized, reset-sized}
 use Rattle.filmdesk.proofs.Holds.{Holds, room-after, written-by}
 use Rattle.filmdesk.proofs.Frames.{number-is, number-named, number-unnamed, push-named, push-unnamed, byte-is}
 

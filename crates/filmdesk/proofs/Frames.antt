@@ -11,7 +11,7 @@ use Rattle.field.specs.Field.{parityNamed, cadenceNumber}
 use Rattle.telecine.specs.History as calls
 use Rattle.filmdesk.specs.Film.{gridNamed, measuredNamed}
 use Rattle.filmdesk.specs.History.{Given, picture, counts, push, Lent, numberIn, byteIn, next, named, frameOf}
-use Rattle.filmdesk.proofs.Claims.{measured-sized, push-sized}
+use Rattle.filmdesk.proofs.States.{measured-sized, push-sized}
 use Rattle.filmdesk.proofs.Holds.{Holds, written-by, once}
 
 -- ---- numbers: those of the detector's own calls, behind the test of the host's codes and of the state's length

@@ -15,7 +15,7 @@ use Rattle.telecine.specs.History as calls
 use Rattle.filmdesk.specs.Kept.{detectorNumbers, detectorBytes, detectorIn, keeping}
 use Rattle.filmdesk.specs.History.{Lent}
 use Rattle.filmdesk.specs.Claims.{Sized}
-use Rattle.filmdesk.proofs.Claims.{found-again}
+use Rattle.filmdesk.proofs.States.{found-again}
 
 -- the state has room, and the detector in it, with the store, are those of a history of the detector's own calls
 pub record Holds (l : Lent) (s : calls.State) : Type 0 where

@@ -4,8 +4,9 @@ pub mod Kept
 pub mod Calls
 pub mod Grids
 pub mod Sized
-pub mod Claims
+pub mod States
 pub mod Holds
 pub mod Frames
 pub mod Demand
 pub mod Door
+pub mod Claims

@@ -10,7 +10,7 @@ use std::collections::BTreeSet;
 use std::fmt::Debug;
 use std::ops::Range;
 
-use desk::{Cadence, PlaneNumbers};
+use desk::{Cadence, GridNumbers};
 use oracle::mediadecoder::video::Plane;
 use oracle::video::telecine::Detector;
 
@@ -44,19 +44,18 @@ impl Both {
         luma: Vec<u8>,
     ) -> Result<(Cadence, bool), Difference> {
         let Size { width, height } = size;
-        let shape = PlaneNumbers {
+        let grid = GridNumbers {
             width: width as u32,
             height: height as u32,
             depth: 8,
             stride: width as u32,
-            layout: 0,
         };
         let first = if top_first {
             desk::Parity::Top
         } else {
             desk::Parity::Bottom
         };
-        let given = self.ours.push(first, &luma, shape);
+        let given = self.ours.push(first, &luma, grid);
         let plane = Plane {
             data: luma,
             stride: width,
