@@ -13,7 +13,7 @@ use Rattle.entry.specs.Entry.{pushIn, entryAt, earlierThan, cadencesOf, 
 abbrev pub CadencesSays : Type 0
 CadencesSays = (bytes : List ℕ) (room : ℕ) → Says (cadencesTests bytes room)
 
--- Where the entries are not refused, byte k of the output stands for a cadence of which demand 3 holds: frame k, its run, and no other.
+-- Where the entries are not refused, byte k of the output stands for the cadence that demand 3 says of frame k and its run.
 pub record Demanded (bytes : List ℕ) (k : ℕ) : Type 0 where
   pub number : framesOf (earlierThan bytes k) ≡ k
   pub byte : getD (cadencesOf bytes) k 0 ≡ cadenceNumber (cadenceOf [] (pushIn (entryAt bytes k)) (earlierThan bytes k))

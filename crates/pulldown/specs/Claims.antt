@@ -63,8 +63,7 @@ pub record RunGrows (s : Symbol) (earlier : List Seen) : Type 0 where
 abbrev pub Runs : Type 0
 Runs = (s : Symbol) (earlier : List Seen) → RunGrows s earlier
 
--- The frames of a run have consecutive numbers, up to that of the newest frame: so many frames of the run came after f, so much is f's number
--- below the newest one's.
+-- The frames of a run have consecutive numbers: one that k frames of the run came after has the newest frame's number less k.
 abbrev pub RunConsecutive : Type 0
 RunConsecutive =
     (seens : List Seen) (f : Frame) (earlier later : List Frame) → runOf seens ≡ later ++ (f ∷ earlier) → f .number + length later + 1 ≡ length seens

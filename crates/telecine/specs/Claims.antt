@@ -23,8 +23,8 @@ use Rattle.telecine.specs.History.{Push, Call, push, reset, State, numbe
 
 -- ---- demand 3
 
--- Take any pushes and resets from a fresh detector, refused calls left out and the store lent back as it was left. The cadence that a frame
--- gets, if it is not refused, is what the demand says of it and its run.
+-- Take any pushes and resets from a fresh detector, refused calls anywhere among them and the store lent back as it was left. The cadence that a
+-- frame gets, if it is not refused, is what the demand says of it and its run.
 abbrev pub ThirdDemand : Type 0
 ThirdDemand =
     (store : List ℕ) (u : Push) (earlier : List Call) → numberOf store u earlier ≡ 0
@@ -56,7 +56,7 @@ pub record RunGrows (u : Push) (earlier : List Call) : Type 0 where
 abbrev pub Runs : Type 0
 Runs = (u : Push) (earlier : List Call) → RunGrows u earlier
 
--- The frames of a run have consecutive numbers, up to that of the newest frame.
+-- The frames of a run have consecutive numbers: one that k frames of the run came after has the newest frame's number less k.
 abbrev pub RunConsecutive : Type 0
 RunConsecutive =
     (calls : List Call) (f : Frame) (earlier later : List Frame) → runOf calls ≡ later ++ (f ∷ earlier) → f .number + length later + 1 ≡ framesOf calls
