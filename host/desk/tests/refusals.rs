@@ -109,3 +109,27 @@ fn told(label: &str, file: &str, pairs: &[(&str, &str)]) -> Option<String> {
     assert_eq!(run.status.success(), said.is_empty(), "{said}");
     (!run.status.success()).then_some(said)
 }
+
+/// Every row of docs/UNIQUE.md is a public function, `CRATE::FUNCTION`.
+#[test]
+fn every_public_contract_has_two_wrong_programs() {
+    let root = Path::new(env!("CARGO_MANIFEST_DIR")).join("../..");
+    let page = fs::read_to_string(root.join("docs/UNIQUE.md")).expect("docs/UNIQUE.md");
+    let named = page.lines().filter_map(|line| line.strip_prefix("| [`"));
+    let mut fewer = Vec::new();
+    for row in named {
+        let (function, _) = row.split_once('`').expect("the end of a name");
+        let (folder, name) = function.split_once("::").expect("a crate");
+        let edits = root.join("crates").join(folder).join("must-fail");
+        let start = format!("wrong: {name}: ");
+        let mut wrong = 0;
+        for edit in fs::read_dir(edits).expect("edits") {
+            let text = fs::read_to_string(edit.expect("an edit").path()).expect("its text");
+            wrong += text.lines().filter(|line| line.starts_with(&start)).count();
+        }
+        if wrong < 2 {
+            fewer.push(format!("{function} has {wrong}"));
+        }
+    }
+    assert!(fewer.is_empty(), "{}", fewer.join("\n"));
+}
