@@ -1,7 +1,8 @@
 -- The claims of specs/Claims.antt. Assumes nothing.
 use Rattle.laws.specs.Refusal.{rising}
 use Rattle.laws.proofs.Claims.{lowest-says}
-use Rattle.weavedesk.specs.Claims.{WeaveSays, LineSays, LineOutSays, ReadbackSays, NewSays, ClearSays, PushSays, FoundAgain, AlwaysSized, PushSized, PairsWoven, RefusalKnown, RefusedLeaves, PlacesStay, TooShort}
+use Rattle.weavedesk.specs.Claims.{WeaveSays, LineSays, LineOutSays, ReadbackSays, NewSays, ClearSays, PushSays}
+use Rattle.weavedesk.specs.Claims.{FoundAgain, AlwaysSized, PushSized, PairsWoven, RefusalKnown, RefusedLeaves, PlacesStay, TooShort}
 use Rattle.weavedesk.proofs.States as states
 use Rattle.weavedesk.proofs.Demand as demand
 

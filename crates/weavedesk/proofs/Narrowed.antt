@@ -123,7 +123,8 @@ module _ (t b : FieldNumbers) (luma cb cr luma′ cb′ cr′ : List ℕ) (luma-
 
 module _ (t : LinesNumbers) (top-bytes : ℕ) (b : LinesNumbers) (bottom-bytes y : ℕ) where
   -- a line that is inside by the height as given has the numbers that line 0 has
-  pub line-number : y < t .height * 2 → lineNo (linesCut t) top-bytes (linesCut b) bottom-bytes 0 ≡ lineNo (linesNamed t) top-bytes (linesNamed b) bottom-bytes y
+  pub line-number :
+      y < t .height * 2 → lineNo (linesCut t) top-bytes (linesCut b) bottom-bytes 0 ≡ lineNo (linesNamed t) top-bytes (linesNamed b) bottom-bytes y
   unfolding lowest
   line-number h =
       let inside = lt-ltb y (t .height * 2) h in

@@ -22,7 +22,8 @@ use Rattle.weaver.specs.Weaver as weaver
 use Rattle.weavedesk.specs.declared.FieldNumbers.{FieldNumbers}
 use Rattle.weavedesk.specs.Woven.{fieldNamed}
 use Rattle.weavedesk.specs.Waiting.{keeping}
-use Rattle.weavedesk.specs.Push.{Lent, Offer, given, parityIn, timeIn, weaverOf, pushNo, stateAfter, storeAfter, lumaAfter, cbAfter, crAfter, timesGiven, pictureNumber, timedNumber, timeNumber, pictureAfter, timedAfter, timeAfter}
+use Rattle.weavedesk.specs.Push.{Lent, Offer, given, parityIn, timeIn, weaverOf, pushNo, timesGiven, pictureNumber, timedNumber, timeNumber}
+use Rattle.weavedesk.specs.Push.{stateAfter, storeAfter, lumaAfter, cbAfter, crAfter, pictureAfter, timedAfter, timeAfter}
 use Rattle.weavedesk.specs.Inner.{fieldCut, timesIn}
 use Rattle.weavedesk.proofs.Narrowed.{judged, field-narrowed}
 
@@ -89,7 +90,9 @@ good-passes false good halved state h = absurd (not-zero 3 tt h)
 good-passes true false halved state h = absurd (not-zero 4 tt h)
 good-passes true true halved state h = refl
 
-pub field-same : (n : FieldNumbers) (named state : Bool) → firstStep named (goodField (fieldNamed n)) (chromaFits (fieldNamed n)) state ≡ 0 → fieldCut n ≡ fieldNamed n
+pub field-same :
+    (n : FieldNumbers) (named state : Bool) → firstStep named (goodField (fieldNamed n)) (chromaFits (fieldNamed n)) state ≡ 0
+    → fieldCut n ≡ fieldNamed n
 field-same n named state h = field-narrowed n .from-given (good-passes named (goodField (fieldNamed n)) (chromaFits (fieldNamed n)) state h)
 
 -- ---- the places that a call is lent, beside the state and the store

@@ -16,19 +16,23 @@ use Rattle.weavedesk.specs.declared.FieldNumbers.{FieldNumbers}
 use Rattle.weavedesk.specs.declared.ReadbackNumbers.{ReadbackNumbers}
 use Rattle.weavedesk.specs.Woven.{linesNamed, fieldNamed, readbackNamed, lineOutTests}
 use Rattle.weavedesk.specs.Waiting.{wholeSize, timeSize, weaverIn, keeping}
-use Rattle.weavedesk.specs.Push.{Lent, Offer, newTests, newNo, clearTests, clearNo, pushTests, pushNo, weaverAfter, lumaAfter, cbAfter, crAfter, pictureAfter, timedAfter, timeAfter}
+use Rattle.weavedesk.specs.Push.{Lent, Offer, newTests, newNo, clearTests, clearNo, pushTests, pushNo}
+use Rattle.weavedesk.specs.Push.{weaverAfter, lumaAfter, cbAfter, crAfter, pictureAfter, timedAfter, timeAfter}
 use Rattle.weavedesk.specs.History.{Call, numberOf, next, after, linesMeant, fieldMeant, named, callsOf, timedOf, timeOf}
 
 -- ---- the numbers: 0 exactly when no number applies, and otherwise the lowest that does, of each call's own tests
 
 abbrev pub WeaveSays : Type 0
 WeaveSays =
-    (top : FieldNumbers) (top-luma top-cb top-cr : List ℕ) (bottom : FieldNumbers) (bottom-luma bottom-cb bottom-cr : List ℕ) (luma-room cb-room cr-room : ℕ)
-    → Says
-    (weaveTests (givenOf (fieldNamed top) top-luma top-cb top-cr) (givenOf (fieldNamed bottom) bottom-luma bottom-cb bottom-cr) luma-room cb-room cr-room)
+    (top : FieldNumbers) (top-luma top-cb top-cr : List ℕ) (bottom : FieldNumbers) (bottom-luma bottom-cb bottom-cr : List ℕ)
+    (luma-room cb-room cr-room : ℕ)
+    → let above = givenOf (fieldNamed top) top-luma top-cb top-cr in
+    let below = givenOf (fieldNamed bottom) bottom-luma bottom-cb bottom-cr in
+    Says (weaveTests above below luma-room cb-room cr-room)
 
 abbrev pub LineSays : Type 0
-LineSays = (t : LinesNumbers) (top-bytes : ℕ) (b : LinesNumbers) (bottom-bytes y : ℕ) → Says (lineTests (linesNamed t) top-bytes (linesNamed b) bottom-bytes y)
+LineSays =
+    (t : LinesNumbers) (top-bytes : ℕ) (b : LinesNumbers) (bottom-bytes y : ℕ) → Says (lineTests (linesNamed t) top-bytes (linesNamed b) bottom-bytes y)
 
 abbrev pub LineOutSays : Type 0
 LineOutSays = (t : LinesNumbers) (top-bytes : ℕ) (b : LinesNumbers) (bottom-bytes y room : ℕ) → Says (lineOutTests t top-bytes b bottom-bytes y room)

@@ -466,7 +466,9 @@ pub extern "C" fn desk_woven_line<'a>(
 pub extern "C" fn desk_woven(field: FormatNumbers) -> FormatNumbers
     ensures { λ r. ⌜ r ≡ formatNumbers (wovenFormat (formatNamed field)) ⌝ }
 {
-    format_numbers(weave::woven(format_named(field)))
+    let named = format_named(field);
+    let woven = weave::woven(named);
+    format_numbers(woven)
 }
 
 // A frame read back, without padding, in three planes. Numbers 1, 2, 4, 6 and 7.
@@ -519,7 +521,8 @@ pub extern "C" fn desk_weaver_clear(state: &mut [u8]) -> u8
         return refusal::SHORT_INPUT;
     }
     let weaver = weaver_in(state);
-    keep(state, weaver.clear());
+    let cleared = weaver.clear();
+    keep(state, cleared);
     0
 }
 

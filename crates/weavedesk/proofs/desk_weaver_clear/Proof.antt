@@ -29,8 +29,8 @@ returns-2 : tie.Need-returns-2
 unfolding lowest
 returns-2 c =
     let kept = c .before .before in
-    let made = kept .before in
-    let passed = made .before .before .before .before in
+    let made = kept .before .before in
+    let passed = made .before .before .before in
     simp (le-leb _ _ (passed .if1 .left))
     (refl, kept .keep .ensures ∙ ap (λ (w : Weaver). keeping w (now (passed .before .before .args .state))) (made .clear .ensures))
 
