@@ -1,104 +1,76 @@
-// Program `cadence`: prints the listing of a reel file (document 01, "Reel file and listing"). Bytes
-// only move here, from standard input by pages and to standard output by pages; `reel` says what they
-// mean, and `listing` how that reads. Assumes nothing.
+// Program `cadence`: prints the listing of a reel file (document 01, "Reel file and listing"), from
+// standard input to standard output. A step of `listing` says what to do, and here it is done: a part of
+// the buffer is read into, or a part of the page written. What the pages then are is the claim
+// `ListsEveryInput` of `listing`. Assumes nothing.
 ghost use mathlib.Core.Path.{_≡_};
-ghost use Prim.Native.Nat.{_+_, _≤_};
+ghost use Prim.Native.Nat.{_≤_, min};
 ghost use lib.ListN.{length};
-use reel::Reel;
+use listing::Lister;
+use pages::Ask;
 
-// What was read and not yet used lies from one place of the buffer up to another.
-struct Held {
-    from: usize,
-    to: usize,
+// The smaller of two.
+fn least(a: usize, b: usize) -> usize
+    ensures { λ r. ⌜ (r ≡ min a b) × (r ≤ b) ⌝ }
+{
+    if a < b { a } else { b }
 }
 
-// Moves what is held to the front, and answers how much that is.
-fn shift(buffer: &mut [u8], from: usize, to: usize) -> usize
-    requires { ⌜ (from ≤ to) × (to ≤ length (now buffer)) ⌝ }
-    ensures { λ r. ⌜ r ≤ length (now (buffer .entry)) ⌝ }
-{
-    let mut i: usize = 0;
-    let mut at = from;
-    while at < to {
-        buffer[i] = buffer[at];
-        i = i + 1;
-        at = at + 1;
+// Reads into the buffer from a place on, and answers how many bytes came. A read that fails is told on
+// standard error, and counts as the end of the input.
+fn read(buffer: &mut [u8], from: usize) -> usize {
+    let start = least(from, buffer.len());
+    let part = &mut buffer[start..];
+    let got = libc::read(0, part);
+    if got < 0 {
+        io::write_all(
+            2,
+            b"cadence: standard input cannot be read; expected a reel file; what came before is listed\n",
+        );
     }
-    i
+    io::count(got, part)
 }
 
-// Sees to it that n bytes are held, or all that is left of the input.
-fn fill(buffer: &mut [u8], from: usize, to: usize, n: usize) -> Held
-    requires { ⌜ (from ≤ to) × (to ≤ length (now buffer)) ⌝ }
-    ensures { λ r. ⌜ (r .from ≤ r .to) × (r .to ≤ length (now (buffer .entry))) ⌝ }
-{
-    if n <= to - from {
-        return Held { from: from, to: to };
+// Where output fails, nothing more can be done.
+fn write(page: &[u8], n: usize) {
+    let end = least(n, page.len());
+    io::write_all(1, &page[0..end]);
+}
+
+fn stops(ask: Ask) -> bool {
+    if let Ask::Stop = ask { true } else { false }
+}
+
+// Does what a step asks for.
+fn answered(after: Lister, ask: Ask, buffer: &mut [u8], page: &[u8]) -> Lister {
+    match ask {
+        Ask::Unit => after,
+        Ask::Read(from) => {
+            let n = read(buffer, from);
+            after.came(buffer, n)
+        }
+        Ask::Write(n) => {
+            write(page, n);
+            after
+        }
+        Ask::Stop => after,
     }
-    let kept = shift(buffer, from, to);
-    let got = io::read_full(0, &mut buffer[kept..]);
-    Held {
-        from: 0,
-        to: kept + got,
-    }
 }
 
-// No unit is longer than the largest picture.
-fn unit(want: u64) -> usize
-    ensures { λ r. ⌜ r ≤ 16384 ⌝ }
-{
-    if want <= 16384 { want as usize } else { 16384 }
-}
-
-// Where a unit of n bytes ends, or what is held.
-fn until(from: usize, to: usize, n: usize) -> usize
-    requires { ⌜ from ≤ to ⌝ }
-    ensures { λ r. ⌜ (from ≤ r) × (r ≤ to) ⌝ }
-{
-    if n <= to - from { from + n } else { to }
-}
-
-// Writes a page out where a line might not fit any more, and answers how much of it is used. Where
-// output fails, nothing more can be done.
-fn room(page: &[u8], used: usize) -> usize
-    requires { ⌜ (used ≤ length (now page)) × (length (now page) ≡ 65536) ⌝ }
-    ensures { λ r. ⌜ r + 128 ≤ 65536 ⌝ }
-{
-    if used <= 65408 {
-        return used;
-    }
-    io::write_all(1, &page[0..used]);
-    0
-}
-
-// A file takes at most two turns more than it has bytes (claim `ReadsEveryFile` of `reel`), so that
-// none lasts as long as is counted down here.
+// A file takes few steps for each of its bytes, so that none lasts as long as is counted down here.
 fn run() {
     let mut buffer = [0u8; 65536];
     let mut page = [0u8; 65536];
     let mut store = [0u8; 16384];
-    let mut from: usize = 0;
-    let mut to: usize = 0;
-    let mut used: usize = 0;
-    let mut reel = Reel::start();
+    let mut lister = Lister::start();
     let mut turns = u64::MAX;
     while 0 < turns {
-        let n = reel.want();
-        if n == 0 {
-            io::write_all(1, &page[0..used]);
+        let step = lister.step(&mut buffer, &mut store, &mut page);
+        let after = step.lister;
+        let ask = step.ask;
+        if stops(ask) {
             return;
         }
-        let held = fill(&mut buffer, from, to, unit(n));
-        let start = held.from;
-        let end = until(start, held.to, unit(n));
-        let next = reel.next(&mut store, &buffer[start..end]);
-        let place = room(&page, used);
-        let said = next.said;
-        used = listing::write(&mut page, place, said);
-        let state = next.reel;
-        reel = state;
-        from = end;
-        to = held.to;
+        lister = answered(after, ask, &mut buffer, &page);
         turns -= 1;
     }
 }

@@ -2,7 +2,8 @@
 // how many differ, a line for each of the desk's calls and one for all. The list is standard input, a
 // record after another; `answers` says what a record is, and host/differ/src/answers.rs made the list
 // from the original. A record that differs is told at once, and a list that is cut or names no call ends
-// the run with a line that says so. Records are counted from 1. Assumes nothing.
+// the run with a line that says so. Records are counted from 1. The last line is the total of a list that
+// was read to its end; of a list that is empty or broken it says that nothing is shown. Assumes nothing.
 mod deskcalls;
 mod names;
 mod weavecalls;
@@ -133,6 +134,18 @@ fn tell_all(compared: &[u64], differ: &[u64])
     tell_counts(all, apart);
 }
 
+// The last line, where a list was not read to its end, or had no record. `nth` is the record that was not
+// replayed, and `kind` what was read of it.
+fn tell_end(nth: u64, kind: u8) {
+    if kind != 0 {
+        names::say(b"not passed: the list is broken at record ");
+        names::say_number(nth);
+        names::say(b"\n");
+    } else if nth == 1 {
+        names::say(b"not passed: the list is empty; expected a record for each of the 28 calls\n");
+    }
+}
+
 // ---- the calls
 
 // Makes a call again, and says whether all of it came as expected.
@@ -165,7 +178,8 @@ fn tally(compared: &mut [u64], differ: &mut [u64], call: usize, alike: bool)
     }
 }
 
-// Reads a record and makes its call again; says whether there was one.
+// Reads a record and makes its call again. Answers what was read, as `Taken` has it; a record that names
+// no call counts as 3.
 fn once(
     nth: u64,
     buffer: &mut [u8],
@@ -175,7 +189,7 @@ fn once(
     field: &mut [u8],
     compared: &mut [u64],
     differ: &mut [u64],
-) -> bool
+) -> u8
     requires { ⌜ (length (now buffer) ≡ 65536) × (length (now compared) ≡ 28) × (length (now differ) ≡ 28) ⌝ }
 {
     let taken = take(buffer);
@@ -183,12 +197,12 @@ fn once(
         if taken.kind != 0 {
             tell_fault(nth, taken);
         }
-        return false;
+        return taken.kind;
     }
     let number = packed::number_at(buffer, 1);
     if 27 < number {
         tell_no_call(nth, number);
-        return false;
+        return 3;
     }
     let call = number as usize;
     let end = taken.bytes;
@@ -197,7 +211,7 @@ fn once(
     if !alike {
         tell_differs(nth, call);
     }
-    true
+    1
 }
 
 // No list is as long as is counted up to here.
@@ -211,7 +225,7 @@ fn run() {
     let mut differ = [0u64; 28];
     let mut nth: u64 = 1;
     while nth < u64::MAX {
-        let more = once(
+        let kind = once(
             nth,
             &mut buffer,
             &mut detector,
@@ -221,8 +235,9 @@ fn run() {
             &mut compared,
             &mut differ,
         );
-        if !more {
+        if kind != 1 {
             tell_all(&compared, &differ);
+            tell_end(nth, kind);
             return;
         }
         nth += 1;

@@ -1,5 +1,6 @@
 -- The law, and for each crate a lemma for each of its public functions. Assumes nothing.
 pub mod Law
+pub mod Pages
 pub mod Copy
 pub mod Field
 pub mod Float

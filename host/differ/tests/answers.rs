@@ -135,7 +135,7 @@ fn the_program_finds_what_differs_and_what_is_cut() {
     assert!(text.contains(&line), "{text}");
     assert_eq!(
         last(&text),
-        format!("total: {} compared, 0 differ", all - 1)
+        format!("not passed: the list is broken at record {all}")
     );
 
     let mut other = file();
@@ -143,7 +143,8 @@ fn the_program_finds_what_differs_and_what_is_cut() {
     let text = printed(&other);
     let line = "record 1 names call 28; expected one below 28\n";
     assert!(text.contains(line), "{text}");
-    assert_eq!(last(&text), "total: 0 compared, 0 differ");
+    assert_eq!(last(&text), "not passed: the list is broken at record 1");
 
-    assert_eq!(last(&printed(&[])), "total: 0 compared, 0 differ");
+    let empty = "not passed: the list is empty; expected a record for each of the 28 calls";
+    assert_eq!(last(&printed(&[])), empty);
 }

@@ -51,6 +51,9 @@ slice-aggregate-tell-all-2 c = search needs
 tell-all-requires : tie.Need-tell-all-requires Inv-loop μ-loop
 tell-all-requires c κs = search needs
 
+tell-end-requires : tie.Need-tell-end-requires Inv-loop μ-loop
+tell-end-requires c κs = search needs
+
 returns : tie.Need-returns Inv-loop μ-loop
 returns c = search needs
 
@@ -84,6 +87,7 @@ run-spec =
     slice-aggregate-tell-all
     slice-aggregate-tell-all-2
     tell-all-requires
+    tell-end-requires
     returns
     add-nth
     loop-less
