@@ -1,6 +1,6 @@
 -- The claims over any calls: the state always holds the detector that the frames given so far leave, of which crate `telecine` has the same claims.
 -- Assumes nothing.
-use Prim.Native.Nat.{ℕ, _≤_, _<_}
+use Prim.Native.Nat.{ℕ, _+_, _≤_, _<_}
 use mathlib.Core.Path.{_≡_, refl, sym, ap, _∙_}
 use mathlib.Core.Logic.{_↔_, ⊎-elim}
 use mathlib.Core.Bool.{Bool, true, false, cond, _&&_}
@@ -13,7 +13,7 @@ use Rattle.laws.specs.Refusal.{lowest, written}
 use Rattle.field.specs.declared.Cadence.{Cadence}
 use Rattle.field.specs.declared.Cadence.the-variants.{None, Whole, Drop, Spanning}
 use Rattle.field.specs.Field.{cadenceNumber}
-use Rattle.pulldown.specs.Runs.{Frame, Meets}
+use Rattle.pulldown.specs.Runs.{Frame, Meets, phaseOf, lockFrame, foretold}
 use Rattle.pulldown.proofs.Bools.{known, clash}
 use Rattle.telecine.specs.Detector.{freshDetector, resetOf}
 use Rattle.telecine.specs.History as calls
@@ -140,7 +140,7 @@ third-demand l u earlier room done =
     ⊎-elim
     (λ e. record {
       cadence = calls.cadenceIn (calls.after (f .found) (callsOf earlier)) (frameOf u);
-      byte = λ before. byte-is _ _ (f .holds) u before e done ∙ same-byte _;
+      byte = λ before. byte-is _ _ (f .holds) u before e done ∙ same-byte (calls.cadenceIn (calls.after (f .found) (callsOf earlier)) (frameOf u));
       third = rw (f .long) at (telecine.third-demand (f .found) (frameOf u) (callsOf earlier) (sym (number-named _ _ (f .holds) u e) ∙ done));
     })
     (λ e. absurd (unnamed-refused _ _ (f .holds) u e done))
@@ -181,5 +181,7 @@ predict-read state ahead room near = rw (le-leb 96 (length state) room, le-leb a
 pub predict-over-calls : PredictOverCalls
 predict-over-calls l made ahead before room near =
     let f = follows l made room in
+    let known = calls.taken (length (f .found)) (callsOf made) in
     rw (predict-read (after l made .state) ahead (f .holds .room) near, f .holds .detector, sym (f .long))
-    (ap cadenceNumber (telecine.predict-says (f .found) (callsOf made) ahead) ∙ same-byte _)
+    (ap cadenceNumber (telecine.predict-says (f .found) (callsOf made) ahead)
+    ∙ same-byte (foretold (phaseOf (calls.runOf known)) (lockFrame (calls.runOf known)) (calls.framesOf known + ahead)))
