@@ -72,4 +72,34 @@ impl Reel {
             ..Self::default()
         }
     }
+
+    /// A reel that no buffer of 64 KB holds, with a listing that no page of 64 KB
+    /// holds: 6,000 entries of film that is spliced every 97 frames, each time a
+    /// step further on, with a few stills, absent entries and bottom fields among
+    /// them; then four pictures of the largest size, each two alike.
+    pub fn long() -> Self {
+        let entry = |at: u16| {
+            let (leading, trailing) = match (at + at / 97) % 5 {
+                _ if at % 211 < 3 => (2, 3),
+                2 => (1, 40),
+                4 => (40, 1),
+                _ => (40, 41),
+            };
+            Entry {
+                parity: u16::from(at / 1000 == 3),
+                present: u16::from(at % 631 != 0),
+                counts: [leading, 1350, trailing, 1350],
+            }
+        };
+        let picture = |at: usize| {
+            (0..16_384)
+                .map(|byte| (byte * (at / 2) / 7) as u8)
+                .collect()
+        };
+        Self {
+            shape: vec![128, 128, 8, 128, 0],
+            entries: (0..6000).map(entry).collect(),
+            pictures: (0..4).map(picture).collect(),
+        }
+    }
 }

@@ -1,5 +1,8 @@
 //! Document 01's example, and each fault at its place.
 
+use std::fs;
+use std::path::Path;
+
 use crate::listing;
 use crate::reel::{Entry, Reel};
 
@@ -28,6 +31,24 @@ fn the_example_comes_out_byte_for_byte() {
     assert_eq!(bytes[4..16], [0, 0, 0, 0, 40, 0, 70, 5, 40, 0, 70, 5]);
     assert_eq!(bytes[16..28], [0, 0, 1, 0, 0, 0, 70, 5, 40, 0, 70, 5]);
     assert_eq!(listing(&bytes), EXAMPLE);
+}
+
+/// The files that the repository ships: the small example, and the long one with
+/// which `cadence` is run by the gate, whose listing is this reader's.
+#[test]
+fn the_shipped_reels_are_these() {
+    let top = Path::new(env!("CARGO_MANIFEST_DIR")).join("../..");
+    let shipped = |path: &str| fs::read(top.join(path)).expect(path);
+    assert_eq!(shipped("docs/example.reel"), Reel::example().bytes());
+    let long = Reel::long().bytes();
+    assert!(65_536 < long.len());
+    assert!(shipped("crates/cadence/stdin") == long);
+    let text = listing(&long);
+    assert!(65_536 < text.len());
+    for word in ["whole 1", "drop 1", "spanning 1", "none 0"] {
+        assert!(text.contains(word), "no frame is '{word}'");
+    }
+    assert!(shipped("crates/cadence/stdout") == text.as_bytes());
 }
 
 /// One entry, and two pictures of two rows of three bytes, the last padding.

@@ -208,8 +208,7 @@ impl Shown {
             let bytes = self.bytes();
             let rattle = Between::noise(&bytes);
             let shape = self.shape;
-            let right =
-                judge::in_bounds(shape) && self.length as u64 >= judge::needed(shape);
+            let right = judge::in_bounds(shape) && self.length as u64 >= judge::needed(shape);
             let rust = right.then(|| {
                 let plane = Plane {
                     data: bytes,
