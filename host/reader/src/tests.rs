@@ -39,7 +39,7 @@ fn the_example_comes_out_byte_for_byte() {
 fn the_shipped_reels_are_these() {
     let top = Path::new(env!("CARGO_MANIFEST_DIR")).join("../..");
     let shipped = |path: &str| fs::read(top.join(path)).expect(path);
-    assert_eq!(shipped("docs/example.reel"), Reel::example().bytes());
+    assert_eq!(listing(&shipped("docs/example.reel")), EXAMPLE);
     let long = Reel::long().bytes();
     assert!(65_536 < long.len());
     assert!(shipped("crates/cadence/stdin") == long);
