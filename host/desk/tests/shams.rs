@@ -22,17 +22,17 @@ fn a_false_table_is_found() {
         ("| `desk_comb` |", "| `desk_combs` |", "no crate exports it"),
         ("| `desk_comb` |", "| desk_comb |", "has no row"),
         (
-            "desk/untouched `combs::desk_comb`",
-            "desk/untouched `combs::comb`",
+            "desk/more_shams `combs::desk_comb`",
+            "desk/more_shams `combs::comb`",
             "no wrong program",
         ),
         (
-            "desk/untouched `combs::desk_comb`",
+            "desk/more_shams `combs::desk_comb`",
             "desk/elsewhere `combs::desk_comb`",
             "is no edit",
         ),
         (
-            "desk/untouched `combs::desk_comb`",
+            "desk/more_shams `combs::desk_comb`",
             "",
             "neither an edit nor a reason",
         ),
