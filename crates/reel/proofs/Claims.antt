@@ -1,5 +1,5 @@
 -- The proofs of what specs/Claims.antt claims. Section after section, from the end of the file to its start, the machine's turns say what the
--- definition says; Known has the numbers. Assumes nothing.
+-- definition says; Known has the numbers, and Lines what is said of each frame. Assumes nothing.
 use Prim.Native.Nat.{ℕ, zero, suc, _+_, _≤_, _<_}
 use native.Mathlib.Omega.{arith}
 use mathlib.Core.Path.{_≡_, refl}
@@ -26,9 +26,10 @@ use Rattle.reel.specs.Reel.{shapeCountTests, shapeTests, picturedIn, noP
 use Rattle.reel.specs.Reel.{whole, judged, frame, pictures, pictureSection, entries, freshState, entrySection, shapeSection, saidOf}
 use Rattle.reel.specs.Machine.{reelOf, startOf, wantOf, stateOf, talliedIn, pushedOf, shapeCountOf, shapeNumbersOf, entryCountOf, entryUnitOf}
 use Rattle.reel.specs.Machine.{pictureCountOf, pictureUnitOf, pictureStore, nextOf, storeAfter, Ends}
-use Rattle.reel.specs.Claims.{ReadsEveryFile, FaultsKnown}
+use Rattle.reel.specs.Claims.{ReadsEveryFile, FaultsKnown, LinesDemanded}
 use Rattle.reel.proofs.Turns.{some-left, one-less, After, by-turn, by-unit, closed, quiet, choose, stored-unit, unit, ended}
 use Rattle.reel.proofs.Known as known
+use Rattle.reel.proofs.Lines as lines
 use Rattle.reel.proofs.Counted.{counted, Sound, same-tally, still-sound}
 use Rattle.reel.proofs.Fine.{Fine, none-fine, given-fine, some-picture}
 
@@ -163,3 +164,6 @@ reads-every-file bytes =
 
 pub faults-known : FaultsKnown
 faults-known = known.faults-known
+
+pub lines-demanded : LinesDemanded
+lines-demanded = lines.lines-demanded

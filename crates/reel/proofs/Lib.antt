@@ -4,4 +4,5 @@ pub mod Turns
 pub mod Counted
 pub mod Fine
 pub mod Known
+pub mod Lines
 pub mod Claims

@@ -2,4 +2,5 @@
 pub mod Reel
 pub mod Machine
 pub mod Inner
+pub mod Frames
 pub mod Claims
