@@ -90,7 +90,7 @@ cameTo p buffer n = record {
 -- ---- the system's reads and writes
 
 -- A read of a part of n bytes delivers the next chunk, or as much of it as the part holds, and the rest of it comes next. Where no chunk is left
--- it delivers nothing. A chunk of no bytes is none.
+-- it delivers nothing. A chunk of no bytes is none. A read that fails counts as one that delivers nothing, and the program asks for no more.
 abbrev pub delivered : ℕ → List (List ℕ) → List ℕ
 delivered n [] = []
 delivered n ([] ∷ more) = delivered n more
@@ -111,7 +111,7 @@ pub record World (S : Type 0) : Type 0 where
   pub program : Program S
   pub chunks : List (List ℕ)
 
--- the system does what is asked: what is read stands in the buffer from the place on that was asked for
+-- the system does what is asked: what is read stands in the buffer from the place on that was asked for, and no other byte of it changes
 abbrev pub answered : {S : Type 0} → Ask → Program S → List (List ℕ) → World S
 answered Unit p chunks = record { program = p; chunks = chunks }
 answered (Read from) p chunks =

@@ -9,8 +9,8 @@ use contract.Lifetimes.{Lfts}
 use denote.Ref.{now}
 use borrow.Fn.Kinds.{Dens}
 use Rattle.laws.specs.Contracts.{Comes}
-use Rattle.weavedesk.specs.Push.{Lent, Offer, newNo, clearNo, emptied, stateAfter, storeAfter, lumaAfter, cbAfter, crAfter, pictureAfter, timedAfter, timeAfter}
-use Rattle.weavedesk.specs.History.{Pushed}
+use Rattle.weavedesk.specs.Push.{Lent, Offer, emptied, stateAfter, storeAfter, lumaAfter, cbAfter, crAfter, pictureAfter, timedAfter, timeAfter}
+use Rattle.weavedesk.specs.History.{new, clear, numberOf, next, Pushed}
 use Rattle.weavedesk.proofs.desk_weaver_new.Kinds as new-kinds
 use Rattle.weavedesk.proofs.desk_weaver_new.Reads as new-reads
 use Rattle.weavedesk.proofs.desk_weaver_clear.Kinds as clear-kinds
@@ -18,15 +18,25 @@ use Rattle.weavedesk.proofs.desk_weaver_clear.Reads as clear-reads
 use Rattle.weavedesk.proofs.desk_weaver_push.Kinds as push-kinds
 use Rattle.weavedesk.proofs.desk_weaver_push.Reads as push-reads
 
+abbrev lentOf : List ℕ → List ℕ → Lent
+lentOf state store = record { state = state; store = store }
+
+-- `new` and `clear` are lent no store, and leave any as it is
 pub new-comes :
     Comes 1 new-kinds.ps new-kinds.r new-reads.Post
-    (λ κs a x s. (x ≡ newNo (length (now (a .0)))) × (now (s .0) ≡ emptied (newNo (length (now (a .0)))) (now (a .0))))
-new-comes κs a x s met = (met .0, met .1 ∙ ap (λ (n : ℕ). emptied n (now (a .0))) (met .0))
+    (λ κs a x s.
+    (store : List ℕ) →
+    let l = lentOf (now (a .0)) store in
+    (x ≡ numberOf l new) × (lentOf (now (s .0)) store ≡ next l new))
+new-comes κs a x s met store = (met .0, λ i. record { state = (met .1 ∙ ap (λ (n : ℕ). emptied n (now (a .0))) (met .0)) i; store = store })
 
 pub clear-comes :
     Comes 1 clear-kinds.ps clear-kinds.r clear-reads.Post
-    (λ κs a x s. (x ≡ clearNo (length (now (a .0)))) × (now (s .0) ≡ emptied (clearNo (length (now (a .0)))) (now (a .0))))
-clear-comes κs a x s met = (met .0, met .1 ∙ ap (λ (n : ℕ). emptied n (now (a .0))) (met .0))
+    (λ κs a x s.
+    (store : List ℕ) →
+    let l = lentOf (now (a .0)) store in
+    (x ≡ numberOf l clear) × (lentOf (now (s .0)) store ≡ next l clear))
+clear-comes κs a x s met store = (met .0, λ i. record { state = (met .1 ∙ ap (λ (n : ℕ). emptied n (now (a .0))) (met .0)) i; store = store })
 
 -- the parameters of `desk_weaver_push`, in their order
 module _ (κs : Lfts 11) (a : Dens κs push-kinds.ps) where
