@@ -9,66 +9,76 @@ mod names;
 mod weavecalls;
 
 ghost use mathlib.Core.Path.{_≡_};
-ghost use Prim.Native.Nat.{_+_, _≤_, _<_};
+ghost use Prim.Native.Nat.{_≤_, _<_, min};
 ghost use lib.ListN.{length};
+use pages::Ask;
+use pages::Held;
 
-// What was read: 0 the end, 1 a record, 2 a part of one, 3 a record of a size that none has. `bytes`
-// is what came, and `size` what was to come.
+// ---- reading
+
+// The smaller of two.
+fn least(a: usize, b: usize) -> usize
+    ensures { λ r. ⌜ (r ≡ min a b) × (r ≤ b) ⌝ }
+{
+    if a < b { a } else { b }
+}
+
+// Reads into the buffer from a place on, until it is full or the list ends, and answers how many bytes came.
+fn read(buffer: &mut [u8], from: usize) -> usize {
+    let start = least(from, buffer.len());
+    io::read_full(0, &mut buffer[start..])
+}
+
+// What is held once n bytes are, or all that is left of the list. A buffer of n bytes has room for them.
+fn hold(held: Held, buffer: &mut [u8], n: usize) -> Held {
+    match pages::next(held.count(buffer), false, n, 0, 0, 0) {
+        Ask::Read(from) => {
+            let front = held.front(buffer);
+            let came = read(buffer, from);
+            front.came(buffer, came)
+        }
+        _ => held,
+    }
+}
+
+// What was read: 0 the end, 1 a record, 2 a part of one, 3 a record of a size that none has. `size` is
+// what a record was to have, and `bytes` what is held, the record in front.
 struct Taken {
     kind: u8,
+    held: Held,
     bytes: usize,
     size: u64,
 }
 
-fn read_head(buffer: &mut [u8]) -> usize
-    requires { ⌜ length (now buffer) ≡ 65536 ⌝ }
-    ensures { λ r. ⌜ r ≤ 32 ⌝ }
-{
-    io::read_full(0, &mut buffer[0..32])
-}
-
-fn read_rest(buffer: &mut [u8], end: usize) -> usize
-    requires { ⌜ (length (now buffer) ≡ 65536) × (32 ≤ end) × (end ≤ 65536) ⌝ }
-    ensures { λ r. ⌜ 32 + r ≤ end ⌝ }
-{
-    io::read_full(0, &mut buffer[32..end])
-}
-
-// Reads the next record to the front of a buffer.
-fn take(buffer: &mut [u8]) -> Taken
-    requires { ⌜ length (now buffer) ≡ 65536 ⌝ }
-    ensures { λ r. ⌜ r .bytes ≤ 65536 ⌝ }
-{
-    let head = read_head(buffer);
-    if head < 32 {
-        let kind = if head == 0 { 0 } else { 2 };
+// Reads the next record, behind what was used of the buffer. Its head says its size.
+fn take(used: Held, buffer: &mut [u8]) -> Taken {
+    let head = hold(used, buffer, 32);
+    let bytes = head.count(buffer);
+    if bytes < 32 {
+        let kind = if bytes == 0 { 0 } else { 2 };
         return Taken {
             kind: kind,
-            bytes: head,
+            held: head,
+            bytes: bytes,
             size: 32,
         };
     }
-    let size = packed::number_at(buffer, 0);
-    if size < 32 {
+    let size = packed::number_at(head.unit(buffer, 32), 0);
+    if (size < 32) | (65536 < size) {
         return Taken {
             kind: 3,
-            bytes: 32,
+            held: head,
+            bytes: bytes,
             size: size,
         };
     }
-    if 65536 < size {
-        return Taken {
-            kind: 3,
-            bytes: 32,
-            size: size,
-        };
-    }
-    let end = size as usize;
-    let rest = read_rest(buffer, end);
-    let kind = if 32 + rest < end { 2 } else { 1 };
+    let held = hold(head, buffer, size as usize);
+    let bytes = held.count(buffer);
+    let kind = if bytes < size as usize { 2 } else { 1 };
     Taken {
         kind: kind,
-        bytes: 32 + rest,
+        held: held,
+        bytes: bytes,
         size: size,
     }
 }
@@ -178,11 +188,12 @@ fn tally(compared: &mut [u64], differ: &mut [u64], call: usize, alike: bool)
     }
 }
 
-// Reads a record and makes its call again. Answers what was read, as `Taken` has it; a record that names
-// no call counts as 3.
+// Makes the call of a record again. Answers what was read, as `Taken` has it; a record that names no call
+// counts as 3.
 fn once(
     nth: u64,
-    buffer: &mut [u8],
+    taken: Taken,
+    buffer: &[u8],
     detector: &mut [u8],
     frame: &mut [u8],
     weaver: &mut [u8],
@@ -190,23 +201,23 @@ fn once(
     compared: &mut [u64],
     differ: &mut [u64],
 ) -> u8
-    requires { ⌜ (length (now buffer) ≡ 65536) × (length (now compared) ≡ 28) × (length (now differ) ≡ 28) ⌝ }
+    requires { ⌜ (length (now compared) ≡ 28) × (length (now differ) ≡ 28) ⌝ }
 {
-    let taken = take(buffer);
     if taken.kind != 1 {
         if taken.kind != 0 {
             tell_fault(nth, taken);
         }
         return taken.kind;
     }
-    let number = packed::number_at(buffer, 1);
+    let held = taken.held;
+    let record = held.unit(buffer, taken.size as usize);
+    let number = packed::number_at(record, 1);
     if 27 < number {
         tell_no_call(nth, number);
         return 3;
     }
     let call = number as usize;
-    let end = taken.bytes;
-    let alike = replayed(call, &buffer[0..end], detector, frame, weaver, field);
+    let alike = replayed(call, record, detector, frame, weaver, field);
     tally(compared, differ, call, alike);
     if !alike {
         tell_differs(nth, call);
@@ -217,6 +228,7 @@ fn once(
 // No list is as long as is counted up to here.
 fn run() {
     let mut buffer = [0u8; 65536];
+    let mut held = Held::nothing();
     let mut detector = [165u8; 213];
     let mut frame = [165u8; 8192];
     let mut weaver = [165u8; 64];
@@ -225,9 +237,11 @@ fn run() {
     let mut differ = [0u64; 28];
     let mut nth: u64 = 1;
     while nth < u64::MAX {
+        let taken = take(held, &mut buffer);
         let kind = once(
             nth,
-            &mut buffer,
+            taken,
+            &buffer,
             &mut detector,
             &mut frame,
             &mut weaver,
@@ -240,6 +254,8 @@ fn run() {
             tell_end(nth, kind);
             return;
         }
+        let read = taken.held;
+        held = read.without(taken.size as usize);
         nth += 1;
     }
 }

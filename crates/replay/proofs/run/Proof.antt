@@ -8,15 +8,24 @@ use Rattle.replay.proofs.run.Statement.{statement}
 use Rattle.replay.proofs.run.Tie as tie
 
 abbrev Inv-loop : tie.InvT-loop
-Inv-loop buffer₀ detector₀ frame₀ weaver₀ field₀ compared₀ differ₀ nth₀ buffer detector frame weaver field compared differ nth =
+Inv-loop buffer₀ held₀ detector₀ frame₀ weaver₀ field₀ compared₀ differ₀ nth₀ buffer held detector frame weaver field compared differ nth =
     (65536 ≡ length buffer) × (213 ≡ length detector) × (8192 ≡ length frame) × (64 ≡ length weaver) × (8192 ≡ length field) × (28 ≡ length compared) × (28 ≡ length differ)
 
 abbrev μ-loop : tie.MeasureT-loop
-μ-loop buffer₀ detector₀ frame₀ weaver₀ field₀ compared₀ differ₀ nth₀ buffer detector frame weaver field compared differ nth =
+μ-loop buffer₀ held₀ detector₀ frame₀ weaver₀ field₀ compared₀ differ₀ nth₀ buffer held detector frame weaver field compared differ nth =
     18446744073709551615 - nth
+
+nothing-requires : tie.Need-nothing-requires Inv-loop μ-loop
+nothing-requires c κs = search needs
 
 loop-holds : tie.Need-loop-holds Inv-loop μ-loop
 loop-holds c = search needs
+
+slice-aggregate-take : tie.Need-slice-aggregate-take Inv-loop μ-loop
+slice-aggregate-take c = search needs
+
+take-requires : tie.Need-take-requires Inv-loop μ-loop
+take-requires c κs = search needs
 
 slice-aggregate-once : tie.Need-slice-aggregate-once Inv-loop μ-loop
 slice-aggregate-once c = search needs
@@ -57,6 +66,9 @@ tell-end-requires c κs = search needs
 returns : tie.Need-returns Inv-loop μ-loop
 returns c = search needs
 
+without-requires : tie.Need-without-requires Inv-loop μ-loop
+without-requires c κs = search needs
+
 add-nth : tie.Need-add-nth Inv-loop μ-loop
 add-nth c = search needs
 
@@ -75,7 +87,10 @@ run-spec =
     (tie.spec
     Inv-loop
     μ-loop
+    nothing-requires
     loop-holds
+    slice-aggregate-take
+    take-requires
     slice-aggregate-once
     slice-aggregate-once-2
     slice-aggregate-once-3
@@ -89,6 +104,7 @@ run-spec =
     tell-all-requires
     tell-end-requires
     returns
+    without-requires
     add-nth
     loop-less
     loop-again
