@@ -50,9 +50,9 @@ struct Taken {
     size: u64,
 }
 
-// Reads the next record, behind what was used of the buffer. Its head says its size.
-fn take(used: Held, buffer: &mut [u8]) -> Taken {
-    let head = hold(used, buffer, 32);
+// Takes the next record from what is left in the buffer and what is left of the list. Its head says its size.
+fn take(left: Held, buffer: &mut [u8]) -> Taken {
+    let head = hold(left, buffer, 32);
     let bytes = head.count(buffer);
     if bytes < 32 {
         let kind = if bytes == 0 { 0 } else { 2 };
