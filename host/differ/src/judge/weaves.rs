@@ -67,9 +67,9 @@ pub fn weave(top: [Lent; 3], bottom: [Lent; 3], outs: [usize; 3]) -> u8 {
 }
 
 /// The number of a single line, which is outside from twice the top's height
-/// on. As of `code`, a height above 65,535 counts as 65,535 there.
+/// on.
 pub fn line(top: PlaneNumbers, bottom: PlaneNumbers, lengths: [u64; 2], y: u32) -> u8 {
-    let lines = u64::from(top.height.min(65_535)) * 2;
+    let lines = u64::from(top.height) * 2;
     let [top_bytes, bottom_bytes] = lengths;
     lowest(&[
         (3, u64::from(y) >= lines),
