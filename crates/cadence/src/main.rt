@@ -4,7 +4,7 @@
 // `ListsEveryInput` of `listing`. Assumes nothing.
 ghost use mathlib.Core.Path.{_≡_};
 ghost use Prim.Native.Nat.{_≤_, min};
-ghost use lib.ListN.{length};
+ghost use lib.ListN.{length, take};
 use listing::Lister;
 use pages::Ask;
 
@@ -15,9 +15,11 @@ fn least(a: usize, b: usize) -> usize
     if a < b { a } else { b }
 }
 
-// Reads into the buffer from a place on, and answers how many bytes came. A read that fails is told on
-// standard error, and counts as the end of the input.
-fn read(buffer: &mut [u8], from: usize) -> usize {
+// Reads into the buffer from a place on, and answers how many bytes came; what stands before stays. A read
+// that fails is told on standard error, and counts as the end of the input.
+fn read(buffer: &mut [u8], from: usize) -> usize
+    ensures { λ _. ⌜ take (min from (length (now (buffer .entry)))) (now (buffer .exit)) ≡ take (min from (length (now (buffer .entry)))) (now (buffer .entry)) ⌝ }
+{
     let start = least(from, buffer.len());
     let part = &mut buffer[start..];
     let got = libc::read(0, part);
