@@ -45,7 +45,7 @@ fn frame(top: &[u8], bottom: &[u8]) -> Result<(Vec<u8>, u64), Refusal> {
     Ok((luma, comb))
 }
 
-/// Document 01's reel: busy blocks of the leading and the trailing field. None
+/// The reel of docs/RULES.md: busy blocks of the leading and the trailing field. None
 /// for the first frame: there was nothing to compare it with.
 fn busy_blocks(at: usize) -> Option<[u16; 2]> {
     match at {

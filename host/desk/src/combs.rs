@@ -65,7 +65,7 @@ pub fn comb_rgba_of(rgba: &[u8], width: u32, height: u32) -> Result<u64, Refusal
 mod tests {
     use super::{Refusal, comb_of, comb_rgba_of};
 
-    /// The card of document 01: 10, 20, 10 in one column.
+    /// The card of docs/RULES.md: 10, 20, 10 in one column.
     #[test]
     fn the_friendly_forms_say_what_the_numbers_say() {
         assert_eq!(comb_of(&[10, 20, 10], 1, 3, 8, 1), Ok(20));

@@ -364,7 +364,7 @@ mod tests {
     };
     use crate::Parity::{Bottom, Top};
 
-    /// Busy blocks of the thirteen entries of document 01's reel file; none of
+    /// Busy blocks of the thirteen entries of the reel file of docs/RULES.md; none of
     /// the first.
     const REEL: [Option<[u64; 2]>; 13] = [
         None,
@@ -441,7 +441,7 @@ mod tests {
         stride: 64,
     };
 
-    /// The cards of document 01: 33 of 128 differ, and 32.
+    /// The cards of docs/RULES.md: 33 of 128 differ, and 32.
     #[test]
     fn a_quarter_of_a_block_is_not_busy() {
         let store = [100; 64 * 16];
@@ -468,7 +468,7 @@ mod tests {
         assert_eq!(refused(&store, GRID, &store[1..]), 6);
     }
 
-    /// As the original reads it, and as document 01 says: ten bits go right by
+    /// As the original reads it, and as docs/RULES.md says: ten bits go right by
     /// two, whatever a biplanar frame would have its luma do first.
     #[test]
     fn words_are_read_as_they_stand() {

@@ -3,7 +3,7 @@
 use crate::Refusal;
 
 /// The shape of a plane. Any numbers may stand here; those outside the bounds
-/// of document 01 ("Planes") are refused by the call that gets them.
+/// of docs/RULES.md ("Planes") are refused by the call that gets them.
 #[repr(C)]
 #[derive(Debug, Clone, Copy, PartialEq, Eq)]
 pub struct PlaneNumbers {
@@ -76,7 +76,7 @@ pub fn value_of(plane: &[u8], shape: PlaneNumbers, x: i32, y: i32) -> Result<f32
 mod tests {
     use super::{PlaneNumbers, Refusal, code_of, value_of};
 
-    /// The cards of document 01: FF 03 as a value, C0 FF as a code.
+    /// The cards of docs/RULES.md: FF 03 as a value, C0 FF as a code.
     #[test]
     fn the_friendly_forms_say_what_the_numbers_say() {
         let planar = PlaneNumbers {

@@ -1,4 +1,4 @@
-//! The refusal numbers of document 01 ("What the desk gets back"), in words.
+//! The refusal numbers of docs/RULES.md ("What the desk gets back"), in words.
 
 use std::error::Error;
 use std::fmt;

@@ -3,7 +3,7 @@
 use crate::{Parity, Refusal};
 
 /// The lines of a plane of a field. Any numbers may stand here; those outside
-/// the bounds of document 01 ("Planes") are refused by the call that gets them.
+/// the bounds of docs/RULES.md ("Planes") are refused by the call that gets them.
 #[repr(C)]
 #[derive(Debug, Clone, Copy, PartialEq, Eq)]
 pub struct LinesNumbers {

@@ -11,7 +11,7 @@ fn every_named_form_stands_where_the_table_says() {
     let places = places(&page);
     assert!(
         places.len() >= 9,
-        "only {} places were found in the table; document 01 names nine forms",
+        "only {} places were found in the table; docs/RULES.md names nine forms",
         places.len()
     );
     let amiss: Vec<String> = places

@@ -1,6 +1,6 @@
 //! The list of answers that the program `replay` goes through
 //! (crates/replay/stdin): what the original answers to fixed inputs of every
-//! call of the desk, and which number document 01 gives where it refuses.
+//! call of the desk, and which number docs/RULES.md gives where it refuses.
 //! Nothing of the proved code is asked.
 //!
 //! The inputs are those of the differential runs, small ones, from a seed that

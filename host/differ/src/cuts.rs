@@ -2,7 +2,7 @@
 //! shots in which little differs from frame to frame, grain, drawings, a wrong
 //! field order. Each reel is made here ([`shots`](crate::shots)) and put, picture
 //! by picture, to the exported detector and to the original's, which have to
-//! agree on every frame. What is found has to be what document 01 lets one
+//! agree on every frame. What is found has to be what docs/RULES.md lets one
 //! expect of such material, and it is what docs/DIFFERENCES.md and
 //! docs/ANSWER.md say of it.
 
@@ -99,7 +99,7 @@ fn listed(reel: &Reel, said_top_first: bool) -> Result<Vec<Listed>, String> {
 }
 
 /// The most busy blocks that a field of a shot has, counted once more from
-/// document 01; its first frame apart.
+/// docs/RULES.md; its first frame apart.
 fn most_busy(size: Size, shot: Shot) -> u64 {
     let Size { width, height } = size;
     let reel = Reel {
@@ -154,7 +154,7 @@ fn left_out(all: &[Listed]) -> usize {
     there.difference(&shown).count()
 }
 
-// ---- What document 01 lets one expect
+// ---- What docs/RULES.md lets one expect
 
 /// The table of cadences by step.
 const BECOMES: [Cadence; 5] = [

@@ -1,6 +1,6 @@
 //! Which number a call is to give. The Rust has no refusals: its types leave
 //! some of these inputs out, and it reads zeros or panics at others. So
-//! document 01 is the judge here ("Planes", "What the desk gets back"), written
+//! docs/RULES.md is the judge here ("Planes", "What the desk gets back"), written
 //! out once more, apart from the proved code and its statements.
 
 use desk::{Conversion, PlaneNumbers};

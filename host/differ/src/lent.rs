@@ -179,7 +179,7 @@ fn places<T: Plain, const ALL: usize, const LENT: usize>(
         let given = call(&mut places);
         // The compiler must not suppose that the call kept to its own places.
         let places = black_box(places);
-        same("the number, which is document 01's", given, number)?;
+        same("the number, which is the rules'", given, number)?;
         for (at, now) in places.into_iter().enumerate() {
             let answer = if at % 2 == 1 {
                 wanted.ok().map(|wanted| wanted[at / 2])

@@ -4,7 +4,7 @@
 //!
 //! [`case`] is the frame of a run, [`random`], [`plane`], [`given`] and
 //! [`lent`] make its inputs and its buffers, [`judge`] says which number
-//! document 01 gives, and [`runs`] lists the runs, one for each call.
+//! docs/RULES.md gives, and [`runs`] lists the runs, one for each call.
 //! [`program`] starts the program `cadence`, for the runs over whole reel files.
 //! [`answers`] makes the list that the program `replay` goes through. [`shots`]
 //! makes shots as they come to tape, and [`cuts`] puts them to both detectors.

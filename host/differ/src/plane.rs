@@ -3,7 +3,7 @@
 use crate::case::smaller_numbers;
 use crate::random::Random;
 
-/// The layout of a plane (document 01, "Planes").
+/// The layout of a plane (docs/RULES.md, "Planes").
 #[derive(Debug, Clone, Copy, PartialEq, Eq)]
 pub struct Layout {
     /// Samples of one component in a row.

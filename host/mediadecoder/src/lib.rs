@@ -1,6 +1,6 @@
 //! A stand-in for the crate `mediadecoder`, which the original uses and which
 //! is not in its text. All of it is ours: it has the fields and the one method
-//! that the original's files name, and nothing else. Document 01 decides what
+//! that the original's files name, and nothing else. docs/RULES.md decides what
 //! they mean; each item says by which rule.
 
 pub mod es {
@@ -17,7 +17,7 @@ pub mod es {
         Bottom,
     }
 
-    /// The colour tags. Ours; "left behind" by document 01's port order, and
+    /// The colour tags. Ours; "left behind" by the port order of docs/RULES.md, and
     /// here only so that `colour.rs` compiles.
     #[derive(Debug, Clone, Copy, PartialEq, Eq, Default)]
     pub struct Colour {
@@ -27,7 +27,7 @@ pub mod es {
     }
 
     /// The format of a frame. Ours. Sizes and the rate are u32, because
-    /// document 01 has `woven` stop at 4,294,967,295 ("Fields and readback":
+    /// docs/RULES.md has `woven` stop at 4,294,967,295 ("Fields and readback":
     /// u32 is our choice); the depth is u8, which holds 8 to 16 ("Planes").
     #[derive(Debug, Clone, Copy, PartialEq, Eq, Default)]
     pub struct Format {
@@ -48,7 +48,7 @@ pub mod video {
 
     use crate::es::{Format, Structure};
 
-    /// One plane of samples. Ours; document 01, "Planes".
+    /// One plane of samples. Ours; docs/RULES.md, "Planes".
     #[derive(Debug, Clone, PartialEq, Eq, Default)]
     pub struct Plane {
         pub data: Vec<u8>,
@@ -77,7 +77,7 @@ pub mod video {
     }
 
     /// A frame of three planes: luma, blue, red. Ours; the fields are those
-    /// that `weave.rs` builds. Document 01 says nothing of the tag.
+    /// that `weave.rs` builds. docs/RULES.md says nothing of the tag.
     #[derive(Debug, Clone, PartialEq, Eq, Default)]
     pub struct Frame {
         pub tag: u64,

@@ -9,7 +9,7 @@ use mediadecoder::video::Frame;
 pub mod weave;
 
 /// What is said of a frame beside its samples. Ours; the fields are those that
-/// the original reads. Document 01 carries two of them over the desk, as
+/// the original reads. docs/RULES.md carries two of them over the desk, as
 /// numbers: the structure, and whether the top field comes first.
 #[derive(Debug, Clone, Copy, PartialEq, Eq, Default)]
 pub struct About {
@@ -36,7 +36,7 @@ impl About {
     }
 }
 
-/// A frame read back from a device. Ours; document 01, "Fields and readback":
+/// A frame read back from a device. Ours; docs/RULES.md, "Fields and readback":
 /// one to three planes that may be padded, the size and depth from `about`.
 #[derive(Debug, Clone, PartialEq, Eq, Default)]
 pub struct Readback {

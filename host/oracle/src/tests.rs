@@ -1,4 +1,4 @@
-//! Signs of life: document 01's own examples, put to the oracle. They judge the
+//! Signs of life: the examples of docs/RULES.md, put to the oracle. They judge the
 //! stand-ins, since the original itself is not ours to test.
 
 use mediadecoder::es::{Format, Structure};

@@ -14,7 +14,7 @@ pub mod filter;
 #[path = "../../../docs/src/core/src/output/video/telecine.rs"]
 pub mod telecine;
 
-/// The quality. Ours; document 01, "Rows a field lacks": "one of Weave, Bob,
+/// The quality. Ours; docs/RULES.md, "Rows a field lacks": "one of Weave, Bob,
 /// Yadif, Bwdif".
 #[derive(Debug, Clone, Copy, PartialEq, Eq, Default)]
 pub enum Deinterlace {
@@ -27,7 +27,7 @@ pub enum Deinterlace {
 
 /// What `picture_of` is told beside its planes. Ours; the fields are those that
 /// it reads. The matrix and the range lead it to the nine numbers of a
-/// `Conversion`, which document 01 has the caller give instead ("Port order").
+/// `Conversion`, which docs/RULES.md has the caller give instead ("Port order").
 #[derive(Debug, Clone, Copy, PartialEq, Eq, Default)]
 pub struct Settings {
     pub deinterlace: Deinterlace,

@@ -1,4 +1,4 @@
-//! A second reader of reel files: document 01, "Reel file and listing", over
+//! A second reader of reel files: docs/RULES.md, "Reel file and listing", over
 //! the original's detector. It is written from that page alone, so that it can
 //! judge the program `cadence`.
 

@@ -1,4 +1,4 @@
-//! Reel files from their parts: document 01, "Reel file and listing".
+//! Reel files from their parts: docs/RULES.md, "Reel file and listing".
 
 /// A file in its three sections. Nothing holds the parts to the rules, so that
 /// damaged files can be made too.
@@ -51,7 +51,7 @@ impl Reel {
         bytes
     }
 
-    /// The example of document 01: "shape 0; 13 entries, all top, totals 1350;
+    /// The example of docs/RULES.md: "shape 0; 13 entries, all top, totals 1350;
     /// pictures 0. Entry 0 absent; 1, 6, 11, 12 busy 0 and 40; 3, 8 busy 40 and
     /// 0; others 40 and 40."
     pub fn example() -> Self {

@@ -1,4 +1,4 @@
-//! Document 01's example, and each fault at its place.
+//! The example of docs/RULES.md, and each fault at its place.
 
 use std::fs;
 use std::path::Path;

@@ -1,6 +1,6 @@
 //! Puts two telecined films (host/differ/data), and splices of them, to the
 //! program `cadence` and to the second reader (crate `reader`): both must print
-//! what document 01 lets one expect of clean pattern, line by line. Then come
+//! what docs/RULES.md lets one expect of clean pattern, line by line. Then come
 //! shots that are made here, at full size (differ's `cuts`): cuts that are not
 //! seen at once, and film that is not found. They are put to the exported
 //! detector and to the original's.
@@ -83,7 +83,7 @@ fn splices() -> Vec<Splice> {
 
 // ---- What is expected of them
 
-/// Document 01's table: the cadence of each step.
+/// The table of docs/RULES.md: the cadence of each step.
 const CADENCES: [&str; 5] = ["whole", "whole", "drop", "spanning", "spanning"];
 
 /// The listing of a film, spliced or not: locked all along, but for the start
@@ -209,7 +209,7 @@ mod tests {
         }
     }
 
-    /// The original recovers as document 01 says, without the program.
+    /// The original recovers as docs/RULES.md says, without the program.
     #[test]
     fn the_reader_recovers_from_every_splice() {
         for splice in splices() {

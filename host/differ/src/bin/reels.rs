@@ -202,7 +202,7 @@ impl Raw {
 
 type Fault = Box<dyn Fn(&mut Raw)>;
 
-/// Each fault that document 01 names, at each place where it can stand.
+/// Each fault that docs/RULES.md names, at each place where it can stand.
 fn faults(reel: &Reel) -> Vec<Fault> {
     let mut faults: Vec<Fault> = Vec::new();
     for count in [1, 2, 4, 6, 256, 261, 65_535] {

@@ -1,4 +1,4 @@
-//! The numbers of weaving and readback: document 01, "Planes" and "Fields and
+//! The numbers of weaving and readback: docs/RULES.md, "Planes" and "Fields and
 //! readback". Three planes are luma, cb and cr, all planar.
 
 use desk::{PlaneNumbers, ReadbackNumbers, WEAVER_BYTES};

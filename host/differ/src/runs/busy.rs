@@ -1,8 +1,8 @@
-//! `desk_busy` against document 01's words and the Rust's own counts.
+//! `desk_busy` against the words of docs/RULES.md and the Rust's own counts.
 //!
 //! The Rust counts in a private function, and its detector says only which
 //! symbol the counts of two fields make. So the counts are written out here once
-//! more, from document 01 ("Blocks and symbols"), apart from the proved code and
+//! more, from docs/RULES.md ("Blocks and symbols"), apart from the proved code and
 //! its statements. Then the Rust is asked whether it counts alike, by its public
 //! calls alone: `confirm` puts bands of known blocks above the picture, until
 //! one busy block more or less decides between two cadences.
@@ -276,7 +276,7 @@ impl Case for Blocks {
             );
             // The compiler must not suppose that the call kept to its own places.
             let [before, busy, between, total, after] = std::hint::black_box(places);
-            same("the number, which is document 01's", given, number)?;
+            same("the number, which is the rules'", given, number)?;
             let wanted = wanted.unwrap_or((pattern, pattern));
             same("busy and all blocks", (busy, total), wanted)?;
             let beside = [before, between, after];

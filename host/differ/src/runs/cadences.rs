@@ -116,7 +116,7 @@ impl Case for Reel {
         for pattern in PATTERNS {
             let mut out = Guarded::<u8>::filled(pattern, self.out);
             let given = desk::cadences(lent.lent(), out.lend());
-            same("the number, which is document 01's", given, number)?;
+            same("the number, which is the rules'", given, number)?;
             // The compiler must not suppose that the call kept to what it was lent.
             std::hint::black_box(&out).written(&expected)?;
         }

@@ -293,7 +293,7 @@ impl Sides {
                 return self.asked();
             }
         };
-        same("the number, which is document 01's", given, number)?;
+        same("the number, which is the rules'", given, number)?;
         same("the cadence", cadence, answer.map_or(9, cadence_number))?;
         let store = std::hint::black_box(&self.store) == &self.wanted_store;
         same("whether the store is as it is to be", store, true)?;

@@ -253,7 +253,7 @@ pub const SYMBOLS: [Symbol; 4] = [
     Symbol::RepeatSecond,
 ];
 
-/// What document 01's table expects at each step.
+/// What the table of docs/RULES.md expects at each step.
 pub const PATTERN: [Symbol; 5] = [
     Symbol::Moved,
     Symbol::Moved,

@@ -12,7 +12,7 @@ use crate::random::Random;
 pub const NAME: &str = "first_field";
 
 /// What the Rust says: 0 and the parity's number, or 3 where a code names
-/// nothing (document 01's table; the Rust's types leave no such case). Never
+/// nothing (the table of docs/RULES.md; the Rust's types leave no such case). Never
 /// inlined, so that the benchmark times a call on both sides.
 #[inline(never)]
 pub fn by_rust(structure: u8, top_field_first: u8, parity: &mut u8) -> u8 {

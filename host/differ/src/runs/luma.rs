@@ -17,7 +17,7 @@ impl Code {
         match self.0 {
             0 => Ok(Primaries::Bt709.luma()),
             1 => Ok(Primaries::Bt2020.luma()),
-            // Document 01's table: "a code names nothing".
+            // The table of docs/RULES.md: "a code names nothing".
             _ => Err(3),
         }
     }

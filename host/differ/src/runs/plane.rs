@@ -74,7 +74,7 @@ impl Case for Whole {
                 after.shape,
                 lent.lend(),
             );
-            same("the number, which is document 01's", given, number)?;
+            same("the number, which is the rules'", given, number)?;
             // The compiler must not suppose that the call kept to what it was lent.
             std::hint::black_box(&lent).written(&expected)?;
         }

@@ -102,7 +102,7 @@ impl Case for Read {
                 self.planes.each_ref().map(|given| given.lent()),
                 lent.each_mut().map(Guarded::lend),
             );
-            same("the number, which is document 01's", given, number)?;
+            same("the number, which is the rules'", given, number)?;
             // The compiler must not suppose that the call kept to what it was lent.
             for (lent, expected) in black_box(&lent).iter().zip(&expected) {
                 lent.written(expected)?;

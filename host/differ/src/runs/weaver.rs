@@ -136,7 +136,7 @@ impl Sides {
     ) -> Result<u8, Difference> {
         let mut lent = Guarded::holding(self.random.next(), &self.state[..length]);
         let given = call(lent.lend());
-        same("the number, which is document 01's", given, number)?;
+        same("the number, which is the rules'", given, number)?;
         self.take_state(black_box(lent), (number == 0).then_some(EMPTY))?;
         if number == 0 {
             self.rust.clear();
@@ -187,7 +187,7 @@ impl Sides {
             let by_rust = self.rust.push(field.frame(), parity == 0, at);
             let fits = self.kept.is_some_and(|kept| kept.fits(lent, parity));
             let found = by_rust.is_some();
-            same("whether document 01 and the Rust pair it", fits, found)?;
+            same("whether docs/RULES.md and the Rust pair it", fits, found)?;
             self.kept = match by_rust {
                 Some((frame, earlier)) => {
                     woven = frame.planes.map(|plane| plane.data);
@@ -224,7 +224,7 @@ impl Sides {
             &mut earlier_timed.lend()[0],
             &mut earlier.lend()[0],
         );
-        same("the number, which is document 01's", given, number)?;
+        same("the number, which is the rules'", given, number)?;
         // The compiler must not suppose that the call kept to what it was lent.
         let [picture, earlier_timed] = black_box(flags);
         let expected = answer.map_or((None, None, None), |(picture, timed, time)| {
@@ -670,7 +670,7 @@ impl Recorder {
             assert_eq!(
                 fits,
                 by_rust.is_some(),
-                "document 01 pairs as the Rust does"
+                "docs/RULES.md pairs as the Rust does"
             );
             self.kept = match by_rust {
                 Some((frame, earlier)) => {

@@ -101,7 +101,7 @@ impl Case for Line {
         let [top_bytes, bottom_bytes] = said;
         let (top_lines, bottom_lines) = (lines(top.shape), lines(bottom.shape));
         let given = desk::line_number(top_lines, top_bytes, bottom_lines, bottom_bytes, y);
-        same("the twin's number, which is document 01's", given, twin)?;
+        same("the twin's number, which is the rules'", given, twin)?;
 
         let lent = [top, bottom].map(|given| (given.shape, given.length));
         let number = judge::weaves::woven_line(lent[0], lent[1], y, out);
@@ -116,7 +116,7 @@ impl Case for Line {
                 y,
                 lent.lend(),
             );
-            same("the number, which is document 01's", given, number)?;
+            same("the number, which is the rules'", given, number)?;
             // The compiler must not suppose that the call kept to what it was lent.
             black_box(&lent).written(expected)?;
         }

@@ -1,4 +1,4 @@
-//! Writes a reel file to standard output: the example of document 01, or, where the
+//! Writes a reel file to standard output: the example of docs/RULES.md, or, where the
 //! first argument is `long`, one that is longer than the buffers of `cadence`.
 
 use std::env;
