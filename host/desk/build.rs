@@ -1,12 +1,19 @@
-//! Links the archives of the proved crates that export calls. For each of them
-//! `rt staticlib NAME` writes libNAME.a to target/staticlib at the root of the
-//! repository. Where DESK_ARCHIVES names another folder (host/bench/on-arm does),
-//! its archives are linked, for whichever machine they are.
+//! Finds the archives of the proved crates that export calls; src/calls.rs names
+//! and links them. For each of them `rt staticlib NAME` writes libNAME.a to
+//! target/staticlib at the root of the repository. Where DESK_ARCHIVES names
+//! another folder (host/bench/on-arm does), its archives are linked, for
+//! whichever machine they are.
 
 use std::env;
 use std::path::PathBuf;
 
-const CRATES: [&str; 4] = ["desk", "picturedesk", "filmdesk", "weavedesk"];
+/// The archives that src/calls.rs links.
+fn archives() -> impl Iterator<Item = &'static str> {
+    let links = include_str!("src/calls.rs").split("#[link(name = \"");
+    links
+        .skip(1)
+        .filter_map(|rest| Some(rest.split_once('"')?.0))
+}
 
 fn main() {
     let manifest = env::var("CARGO_MANIFEST_DIR").expect("cargo sets CARGO_MANIFEST_DIR");
@@ -15,6 +22,7 @@ fn main() {
     folder.pop();
     folder.push("target/staticlib");
     println!("cargo::rerun-if-changed=build.rs");
+    println!("cargo::rerun-if-changed=src/calls.rs");
     println!("cargo::rerun-if-env-changed=DESK_ARCHIVES");
     let named = env::var_os("DESK_ARCHIVES");
     if let Some(other) = &named {
@@ -30,7 +38,7 @@ fn main() {
         );
     }
     println!("cargo::rustc-link-search=native={}", folder.display());
-    for name in CRATES {
+    for name in archives() {
         let archive = folder.join(format!("lib{name}.a"));
         println!("cargo::rerun-if-changed={}", archive.display());
         if !archive.is_file() {
@@ -39,8 +47,6 @@ fn main() {
                  writes, run at the root of the repository",
                 archive.display()
             );
-        } else if right_target {
-            println!("cargo::rustc-link-lib=static={name}");
         }
     }
 }

@@ -9,8 +9,9 @@ ghost use Rattle.laws.specs.Refusal.{whenDone};
 ghost use Rattle.colour.specs.Colour.{withinOf, goodConversion, goodSamples, convertedOf, quantiseOf, lumaWeights};
 ghost use Rattle.colour.specs.Answer.{colouredNo, colouredValues, toRgbNo};
 
-// Offsets and gains are of values by the largest code of their depth. `luma_lift`, `chroma_cos` and
-// `chroma_sin` are 0, 1 and 0 where nothing is adjusted.
+// The nine numbers of a conversion, each within -16 to 16, `kr` and `kb` within 0 to 0.4375. Offsets and
+// gains are of values by the largest code of their depth. `luma_lift`, `chroma_cos` and `chroma_sin` are
+// 0, 1 and 0 where nothing is adjusted.
 #[repr(C)]
 pub struct Conversion {
     pub luma_offset: f32,

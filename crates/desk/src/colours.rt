@@ -33,7 +33,7 @@ pub extern "C" fn desk_to_rgb(
     }
 }
 
-// A value as a byte, of every float.
+// A value as a byte, of every float; a NaN gives 0. Refuses nothing.
 #[no_mangle]
 pub extern "C" fn desk_quantise(value: f32) -> u8
     ensures { λ r. ⌜ r ≡ quantiseOf value ⌝ }

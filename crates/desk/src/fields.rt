@@ -27,8 +27,8 @@ fn structure_named(code: u8) -> field::Structure
     }
 }
 
-// The field that comes first in time, 0 top and 1 bottom, of a picture whose structure is 0 frame,
-// 1 top or 2 bottom and whose flag is 0 or 1. Another code gets 3.
+// The field that comes first in time, 0 top or 1 bottom, of a picture whose structure is 0 frame,
+// 1 top or 2 bottom and whose flag is 0 or 1. Number 3.
 #[no_mangle]
 pub extern "C" fn desk_first_field(structure: u8, top_field_first: u8, parity: &mut u8) -> u8
     ensures { λ r. ⌜ r ≡ firstFieldNo structure «top_field_first» ⌝ }

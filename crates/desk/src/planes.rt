@@ -10,15 +10,19 @@ ghost use Rattle.plane.specs.Coordinates.{inside};
 ghost use Rattle.desk.specs.Planes.{layoutNamed, shapeNamed, codeNo, atNo};
 ghost use Rattle.desk.specs.Inner.{cut};
 
-// A plane's shape as the host gives it: sizes in samples, the stride in bytes, and the layout by its
-// code: 0 planar, 1 the luma of a biplanar frame, 2 and 3 the first and the second of two components
-// that share a plane. The numbers are wider than a shape's own, so that none can wrap into the bounds.
+// A plane's shape as the host gives it. The numbers are wider than a shape's own, so that none can wrap
+// into the bounds; a call refuses those outside.
 #[repr(C)]
 pub struct PlaneNumbers {
+    // Samples of one component in a row.
     pub width: u32,
     pub height: u32,
+    // Bits of a sample.
     pub depth: u32,
+    // Bytes from one row to the next.
     pub stride: u32,
+    // 0 planar, 1 the luma of a biplanar frame, 2 and 3 the first and the second of two components that
+    // share a plane.
     pub layout: u32,
 }
 

@@ -37,12 +37,14 @@ const STATE_BYTES: usize = 96;
 const RING: usize = 80;
 
 // A picture's shape as the host gives it: sizes in samples, the stride in bytes. The numbers are wider
-// than a grid's own, so that none can wrap into the bounds.
+// than a grid's own, so that none can wrap into the bounds; a call refuses those outside.
 #[repr(C)]
 pub struct GridNumbers {
     pub width: u32,
     pub height: u32,
+    // Bits of a sample.
     pub depth: u32,
+    // Bytes from one row to the next.
     pub stride: u32,
 }
 
@@ -350,8 +352,8 @@ pub extern "C" fn desk_busy(
     }
 }
 
-// The cadence of each measured entry from a fresh detector: 0 None, 1 Whole, 2 Drop, 3 Spanning.
-// Numbers 3, 6, 7 and 9.
+// The cadence of each measured entry of twelve bytes from a fresh detector: 0 None, 1 Whole, 2 Drop,
+// 3 Spanning. Numbers 3, 6, 7 and 9.
 #[no_mangle]
 pub extern "C" fn desk_cadences(entries: &[u8], out: &mut [u8]) -> u8
     ensures { λ r. ⌜ r ≡ cadencesNo (now (entries .entry)) (length (now (out .entry))) ⌝ }
@@ -361,7 +363,7 @@ pub extern "C" fn desk_cadences(entries: &[u8], out: &mut [u8]) -> u8
     number
 }
 
-// A fresh detector. Number 7.
+// A fresh detector at the start of `state`. Number 7.
 #[no_mangle]
 pub extern "C" fn desk_detector_new(state: &mut [u8]) -> u8
     ensures { λ r. ⌜ r ≡ newNo (length (now (state .entry))) ⌝ }
@@ -375,7 +377,7 @@ pub extern "C" fn desk_detector_new(state: &mut [u8]) -> u8
     0
 }
 
-// Number 6.
+// Starts the detector again; only which field led in the last frame is remembered. Number 6.
 #[no_mangle]
 pub extern "C" fn desk_detector_reset(state: &mut [u8]) -> u8
     ensures { λ r. ⌜ r ≡ stateNo (length (now (state .entry))) ⌝ }

@@ -12,7 +12,8 @@ ghost use Rattle.desk.specs.Filters.{qualityNamed};
 ghost use Rattle.picturedesk.specs.Inner.{cutPlanes};
 ghost use Rattle.picturedesk.specs.Pictures.{chosenNamed, sourceNamed, outputNamed, planesNamed, layoutsNamed, outputGood, allNamed, pictureNamedNo};
 
-// The three planes of a frame.
+// The shapes of a frame's three planes. Where two components share a plane, both name it, and the same
+// bytes are lent twice.
 #[repr(C)]
 pub struct FrameNumbers {
     pub luma: PlaneNumbers,
@@ -20,14 +21,16 @@ pub struct FrameNumbers {
     pub cr: PlaneNumbers,
 }
 
-// What is shown: the field, 0 top, 1 bottom, 2 neither; the field whose rows come from the earlier frame
-// when film is put together again, likewise; and the frames that serve as earlier and later, 0 the
-// previous one, 1 the current one, 2 the next.
+// What is shown of three frames.
 #[repr(C)]
 pub struct OutputNumbers {
+    // The field: 0 top, 1 bottom, 2 neither, which is Weave whatever the quality.
     pub field: u32,
+    // The field whose rows come from the earlier frame when film is put together again, likewise.
     pub weave: u32,
+    // The frame that serves as earlier: 0 the previous one, 1 the current one, 2 the next.
     pub earlier: u32,
+    // The frame that serves as later, likewise.
     pub later: u32,
 }
 

@@ -4,9 +4,8 @@
 // from the original. A record that differs is told at once, and a list that is cut or names no call ends
 // the run with a line that says so. Records are counted from 1. The last line is the total of a list that
 // was read to its end; of a list that is empty or broken it says that nothing is shown. Assumes nothing.
-mod deskcalls;
+mod calls;
 mod names;
-mod weavecalls;
 
 ghost use mathlib.Core.Path.{_≡_};
 ghost use Prim.Native.Nat.{_≤_, _<_, min};
@@ -108,12 +107,14 @@ fn tell_no_call(nth: u64, call: u64) {
     names::say_number(nth);
     names::say(b" names call ");
     names::say_number(call);
-    names::say(b"; expected one below 28\n");
+    names::say(b"; expected one below ");
+    names::say_number(calls::COUNT as u64);
+    names::say(b"\n");
 }
 
 fn tell_differs(nth: u64, call: usize) {
     names::say(b"differs: ");
-    names::say_name(call);
+    calls::say_name(call);
     names::say(b", record ");
     names::say_number(nth);
     names::say(b"\n");
@@ -128,13 +129,13 @@ fn tell_counts(compared: u64, differ: u64) {
 }
 
 fn tell_all(compared: &[u64], differ: &[u64])
-    requires { ⌜ (length (now compared) ≡ 28) × (length (now differ) ≡ 28) ⌝ }
+    requires { ⌜ (length (now compared) ≡ 256) × (length (now differ) ≡ 256) ⌝ }
 {
     let mut all: u64 = 0;
     let mut apart: u64 = 0;
     let mut call: usize = 0;
-    while call < 28 {
-        names::say_name(call);
+    while call < calls::COUNT {
+        calls::say_name(call);
         tell_counts(compared[call], differ[call]);
         all = std::num::wrapping_add_u64(all, compared[call]);
         apart = std::num::wrapping_add_u64(apart, differ[call]);
@@ -152,35 +153,22 @@ fn tell_end(nth: u64, kind: u8) {
         names::say_number(nth);
         names::say(b"\n");
     } else if nth == 1 {
-        names::say(b"not passed: the list is empty; expected a record for each of the 28 calls\n");
+        names::say(b"not passed: the list is empty; expected a record for each of the ");
+        names::say_number(calls::COUNT as u64);
+        names::say(b" calls\n");
     }
 }
 
 // ---- the calls
 
-// Makes a call again, and says whether all of it came as expected.
-fn replayed(
-    call: usize,
-    answer: &[u8],
-    detector: &mut [u8],
-    frame: &mut [u8],
-    weaver: &mut [u8],
-    field: &mut [u8],
-) -> bool {
-    if call < 20 {
-        return deskcalls::replayed(call, answer, detector, frame);
-    }
-    weavecalls::replayed(call, answer, weaver, field)
-}
-
 fn count(counts: &mut [u64], call: usize)
-    requires { ⌜ (length (now counts) ≡ 28) × (call < 28) ⌝ }
+    requires { ⌜ (length (now counts) ≡ 256) × (call < 256) ⌝ }
 {
     counts[call] = std::num::wrapping_add_u64(counts[call], 1);
 }
 
 fn tally(compared: &mut [u64], differ: &mut [u64], call: usize, alike: bool)
-    requires { ⌜ (length (now compared) ≡ 28) × (length (now differ) ≡ 28) × (call < 28) ⌝ }
+    requires { ⌜ (length (now compared) ≡ 256) × (length (now differ) ≡ 256) × (call < 256) ⌝ }
 {
     count(compared, call);
     if !alike {
@@ -194,14 +182,12 @@ fn once(
     nth: u64,
     taken: Taken,
     buffer: &[u8],
-    detector: &mut [u8],
-    frame: &mut [u8],
-    weaver: &mut [u8],
-    field: &mut [u8],
+    state: &mut [u8],
+    store: &mut [u8],
     compared: &mut [u64],
     differ: &mut [u64],
 ) -> u8
-    requires { ⌜ (length (now compared) ≡ 28) × (length (now differ) ≡ 28) ⌝ }
+    requires { ⌜ (length (now compared) ≡ 256) × (length (now differ) ≡ 256) ⌝ }
 {
     if taken.kind != 1 {
         if taken.kind != 0 {
@@ -212,12 +198,12 @@ fn once(
     let held = taken.held;
     let record = held.unit(buffer, taken.size as usize);
     let number = packed::number_at(record, 1);
-    if 27 < number {
+    if calls::COUNT as u64 <= number {
         tell_no_call(nth, number);
         return 3;
     }
     let call = number as usize;
-    let alike = replayed(call, record, detector, frame, weaver, field);
+    let alike = calls::replayed(call, record, state, store);
     tally(compared, differ, call, alike);
     if !alike {
         tell_differs(nth, call);
@@ -229,12 +215,10 @@ fn once(
 fn run() {
     let mut buffer = [0u8; 65536];
     let mut held = Held::nothing();
-    let mut detector = [165u8; 213];
-    let mut frame = [165u8; 8192];
-    let mut weaver = [165u8; 64];
-    let mut field = [165u8; 8192];
-    let mut compared = [0u64; 28];
-    let mut differ = [0u64; 28];
+    let mut state = [165u8; 256];
+    let mut store = [165u8; 8192];
+    let mut compared = [0u64; 256];
+    let mut differ = [0u64; 256];
     let mut nth: u64 = 1;
     while nth < u64::MAX {
         let taken = take(held, &mut buffer);
@@ -242,10 +226,8 @@ fn run() {
             nth,
             taken,
             &buffer,
-            &mut detector,
-            &mut frame,
-            &mut weaver,
-            &mut field,
+            &mut state,
+            &mut store,
             &mut compared,
             &mut differ,
         );

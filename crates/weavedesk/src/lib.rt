@@ -24,15 +24,20 @@ ghost use Rattle.weavedesk.specs.Waiting.{keeping, weaverIn, weaverNumbe
 ghost use Rattle.weavedesk.specs.Push.{lent, offer, newNo, clearNo, emptied, timeNamed, pushNo, stateAfter, storeAfter, lumaAfter, cbAfter, crAfter, pictureNumber, timedNumber, timeNumber, pictureAfter, timedAfter, timeAfter};
 ghost use Rattle.weavedesk.specs.Inner.{linesCut, fieldCut, readbackCut, timesIn};
 
-// The lines of a plane of a field: sizes in samples, the stride in bytes.
+// The lines of a plane of a field: sizes in samples, the stride in bytes. Any numbers may stand here; a
+// call refuses those outside the bounds.
 #[repr(C)]
 pub struct LinesNumbers {
     pub width: u32,
+    // Lines of the field: at most 2,176.
     pub height: u32,
+    // Bits of a sample.
     pub depth: u32,
+    // Bytes from one line to the next.
     pub stride: u32,
 }
 
+// The three planes of a field.
 #[repr(C)]
 pub struct FieldNumbers {
     pub luma: LinesNumbers,
@@ -57,6 +62,7 @@ pub struct FormatNumbers {
 // to the next.
 #[repr(C)]
 pub struct ReadbackNumbers {
+    // 2 where the chroma components share a plane, or 3.
     pub planes: u32,
     pub width: u32,
     pub height: u32,
@@ -346,7 +352,7 @@ fn time_number(earlier: Time) -> i64
 
 // ---- the calls
 
-// Two fields' lines in turn, the top field's first. Numbers 4 to 7.
+// Two fields' lines in turn, the top field's first; each woven plane is tightly packed. Numbers 4 to 7.
 #[no_mangle]
 pub extern "C" fn desk_weave(
     top: FieldNumbers,
@@ -404,7 +410,7 @@ fn line_number(
     )
 }
 
-// The number of a single woven line, from the lengths of the two planes: 3 to 6.
+// The number of a single woven line, from the lengths of the two planes. Numbers 3 to 6.
 #[no_mangle]
 pub extern "C" fn desk_line_number(
     top: LinesNumbers,
@@ -461,7 +467,8 @@ pub extern "C" fn desk_woven_line<'a>(
     0
 }
 
-// The format of the frames woven from fields of a format. A flag other than 0 counts as 1.
+// The format of the frames woven from fields of a format. A flag other than 0 counts as 1. Refuses
+// nothing.
 #[no_mangle]
 pub extern "C" fn desk_woven(field: FormatNumbers) -> FormatNumbers
     ensures { λ r. ⌜ r ≡ formatNumbers (wovenFormat (formatNamed field)) ⌝ }
@@ -471,7 +478,8 @@ pub extern "C" fn desk_woven(field: FormatNumbers) -> FormatNumbers
     format_numbers(woven)
 }
 
-// A frame read back, without padding, in three planes. Numbers 1, 2, 4, 6 and 7.
+// A frame read back, without padding, in three planes. Of two planes the second has both chroma
+// components, and the third is not looked at. Numbers 1, 2, 4, 6 and 7.
 #[no_mangle]
 pub extern "C" fn desk_readback(
     about: ReadbackNumbers,
@@ -498,7 +506,7 @@ pub extern "C" fn desk_readback(
     )
 }
 
-// A weaver with no field. Number 7.
+// A weaver with no field, at the start of `state`. Number 7.
 #[no_mangle]
 pub extern "C" fn desk_weaver_new(state: &mut [u8]) -> u8
     ensures { λ r. ⌜ r ≡ newNo (length (now (state .entry))) ⌝ }
@@ -528,7 +536,8 @@ pub extern "C" fn desk_weaver_clear(state: &mut [u8]) -> u8
 
 // Takes a field of parity 0 top or 1 bottom; where `timed` is 1 it has the time `time`. `picture` gets 1
 // where the outputs have a picture, else 0; `earlier_timed` and `earlier_time` get the earlier field's
-// time where there is a picture and it has one, else 0. Numbers 3 to 7.
+// time where there is a picture and it has one, else 0. `store` keeps the field that waits, and comes
+// back as it was left. Numbers 3 to 7.
 #[no_mangle]
 pub extern "C" fn desk_weaver_push(
     state: &mut [u8],

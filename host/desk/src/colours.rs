@@ -1,78 +1,13 @@
 //! Colour by number: crates/desk/src/colours.rt.
 
-use crate::Refusal;
-
-/// The nine numbers of a conversion, each within -16 to 16; `kr` and `kb`
-/// within 0 to 0.4375. Others are refused.
-#[repr(C)]
-#[derive(Debug, Clone, Copy, PartialEq)]
-pub struct Conversion {
-    pub luma_offset: f32,
-    pub luma_gain: f32,
-    pub chroma_offset: f32,
-    pub chroma_gain: f32,
-    pub kr: f32,
-    pub kb: f32,
-    pub luma_lift: f32,
-    pub chroma_cos: f32,
-    pub chroma_sin: f32,
-}
-
-unsafe extern "C" {
-    fn desk_to_rgb(
-        conversion: Conversion,
-        y: f32,
-        cb: f32,
-        cr: f32,
-        red: *mut f32,
-        green: *mut f32,
-        blue: *mut f32,
-    ) -> u8;
-
-    fn desk_quantise(value: f32) -> u8;
-
-    fn desk_luma(primaries: u8, red: *mut f32, green: *mut f32, blue: *mut f32) -> u8;
-}
-
-/// A sample in red, green and blue. Gives 0, and the three in their places; or
-/// 8, and then all three are untouched.
-#[inline]
-pub fn to_rgb(
-    conversion: Conversion,
-    y: f32,
-    cb: f32,
-    cr: f32,
-    red: &mut f32,
-    green: &mut f32,
-    blue: &mut f32,
-) -> u8 {
-    // SAFETY: the call takes every number, and writes at most the one number
-    // behind each of the three references, which are ours alone while the call
-    // lasts, and apart from each other.
-    unsafe { desk_to_rgb(conversion, y, cb, cr, red, green, blue) }
-}
-
-/// A value as a byte; a NaN gives 0. Never refused: the number is the answer.
-#[inline]
-pub fn quantise(value: f32) -> u8 {
-    // SAFETY: the call takes every float, and touches no memory of ours.
-    unsafe { desk_quantise(value) }
-}
-
-/// The weights of red, green and blue in luma. `primaries` is 0 for BT.709, 1
-/// for BT.2020. Gives 0, and the three in their places; or 3, and then all
-/// three are untouched.
-#[inline]
-pub fn luma(primaries: u8, red: &mut f32, green: &mut f32, blue: &mut f32) -> u8 {
-    // SAFETY: as for `to_rgb`.
-    unsafe { desk_luma(primaries, red, green, blue) }
-}
+use crate::calls::Conversion;
+use crate::{Refusal, calls};
 
 /// [`to_rgb`] with its answer as values: red, green, blue.
 pub fn rgb_of(conversion: Conversion, y: f32, cb: f32, cr: f32) -> Result<[f32; 3], Refusal> {
     let mut rgb = [0.0; 3];
     let [red, green, blue] = &mut rgb;
-    Refusal::check(to_rgb(conversion, y, cb, cr, red, green, blue))?;
+    Refusal::check(calls::to_rgb(conversion, y, cb, cr, red, green, blue))?;
     Ok(rgb)
 }
 
@@ -80,13 +15,14 @@ pub fn rgb_of(conversion: Conversion, y: f32, cb: f32, cr: f32) -> Result<[f32; 
 pub fn luma_of(primaries: u8) -> Result<[f32; 3], Refusal> {
     let mut weights = [0.0; 3];
     let [red, green, blue] = &mut weights;
-    Refusal::check(luma(primaries, red, green, blue))?;
+    Refusal::check(calls::luma(primaries, red, green, blue))?;
     Ok(weights)
 }
 
 #[cfg(test)]
 mod tests {
-    use super::{Conversion, Refusal, luma_of, quantise, rgb_of};
+    use super::{Conversion, Refusal, luma_of, rgb_of};
+    use crate::calls::quantise;
 
     #[test]
     fn the_friendly_forms_say_what_the_numbers_say() {

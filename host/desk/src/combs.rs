@@ -1,45 +1,6 @@
 //! Comb by number: crates/desk/src/combs.rt.
 
-use crate::Refusal;
-
-unsafe extern "C" {
-    fn desk_comb(
-        plane: *const u8,
-        plane_len: usize,
-        width: u32,
-        height: u32,
-        depth: u32,
-        stride: u32,
-        total: *mut u64,
-    ) -> u8;
-
-    fn desk_comb_rgba(
-        rgba: *const u8,
-        rgba_len: usize,
-        width: u32,
-        height: u32,
-        total: *mut u64,
-    ) -> u8;
-}
-
-/// The comb of a plane whose codes are read as they stand. Gives 0, and the
-/// sum in `total`; or 4 or 6, and then `total` is untouched.
-#[inline]
-pub fn comb(plane: &[u8], width: u32, height: u32, depth: u32, stride: u32, total: &mut u64) -> u8 {
-    let length = plane.len();
-    // SAFETY: the call takes every number, reads at most the bytes of `plane`,
-    // and writes at most the one number behind `total`, which is ours alone
-    // while the call lasts.
-    unsafe { desk_comb(plane.as_ptr(), length, width, height, depth, stride, total) }
-}
-
-/// The comb of the green of an RGBA picture without padding. Gives 0, and the
-/// sum in `total`; or 4 or 6, and then `total` is untouched.
-#[inline]
-pub fn comb_rgba(rgba: &[u8], width: u32, height: u32, total: &mut u64) -> u8 {
-    // SAFETY: as for `comb`, with the bytes of `rgba`.
-    unsafe { desk_comb_rgba(rgba.as_ptr(), rgba.len(), width, height, total) }
-}
+use crate::{Refusal, calls};
 
 /// [`comb()`] with its answer as a value.
 pub fn comb_of(
@@ -50,14 +11,14 @@ pub fn comb_of(
     stride: u32,
 ) -> Result<u64, Refusal> {
     let mut total = 0;
-    Refusal::check(comb(plane, width, height, depth, stride, &mut total))?;
+    Refusal::check(calls::comb(plane, width, height, depth, stride, &mut total))?;
     Ok(total)
 }
 
 /// [`comb_rgba`] with its answer as a value.
 pub fn comb_rgba_of(rgba: &[u8], width: u32, height: u32) -> Result<u64, Refusal> {
     let mut total = 0;
-    Refusal::check(comb_rgba(rgba, width, height, &mut total))?;
+    Refusal::check(calls::comb_rgba(rgba, width, height, &mut total))?;
     Ok(total)
 }
 

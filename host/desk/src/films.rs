@@ -1,24 +1,13 @@
 //! Block counts and the detector by number: crates/filmdesk/src/lib.rt.
 
-use crate::{Parity, Refusal};
+use crate::calls::GridNumbers;
+use crate::{Parity, Refusal, calls};
 
 /// Bytes in which a detector is kept between calls.
 pub const STATE_BYTES: usize = 96;
 
 /// Bytes of a measured entry.
 pub const ENTRY_BYTES: usize = 12;
-
-/// A picture's shape: sizes in samples, the stride in bytes. Words are read as
-/// they stand, so that there is no layout: a biplanar luma deeper than 8 bits
-/// goes through readback first.
-#[repr(C)]
-#[derive(Debug, Clone, Copy, PartialEq, Eq)]
-pub struct GridNumbers {
-    pub width: u32,
-    pub height: u32,
-    pub depth: u32,
-    pub stride: u32,
-}
 
 /// What a detector says of a frame; the desk's numbers are 0 to 3.
 #[derive(Debug, Clone, Copy, PartialEq, Eq)]
@@ -51,196 +40,6 @@ pub struct Counts {
     pub total: u64,
 }
 
-unsafe extern "C" {
-    fn desk_busy(
-        plane: *const u8,
-        plane_len: usize,
-        grid: GridNumbers,
-        store: *const u8,
-        store_len: usize,
-        parity: u8,
-        busy: *mut u64,
-        total: *mut u64,
-    ) -> u8;
-
-    fn desk_cadences(entries: *const u8, entries_len: usize, out: *mut u8, out_len: usize) -> u8;
-
-    fn desk_detector_new(state: *mut u8, state_len: usize) -> u8;
-
-    fn desk_detector_reset(state: *mut u8, state_len: usize) -> u8;
-
-    fn desk_detector_locked(state: *const u8, state_len: usize, locked: *mut u8) -> u8;
-
-    fn desk_detector_predict(
-        state: *const u8,
-        state_len: usize,
-        ahead: u64,
-        cadence: *mut u8,
-    ) -> u8;
-
-    fn desk_detector_push_measured(
-        state: *mut u8,
-        state_len: usize,
-        parity: u8,
-        present: u8,
-        busy: u64,
-        total: u64,
-        other_busy: u64,
-        other_total: u64,
-        cadence: *mut u8,
-    ) -> u8;
-
-    fn desk_detector_push(
-        state: *mut u8,
-        state_len: usize,
-        parity: u8,
-        plane: *const u8,
-        plane_len: usize,
-        grid: GridNumbers,
-        store: *mut u8,
-        store_len: usize,
-        cadence: *mut u8,
-    ) -> u8;
-}
-
-/// Busy blocks and all blocks of a field, 0 top or 1 bottom, against the same
-/// field of the frame that `store` keeps as 8-bit samples, row by row. Gives 0,
-/// and the two in their places; or 3, 4 or 6, and then both are untouched.
-#[inline]
-pub fn busy(
-    plane: &[u8],
-    grid: GridNumbers,
-    store: &[u8],
-    parity: u8,
-    busy: &mut u64,
-    total: &mut u64,
-) -> u8 {
-    let (length, room) = (plane.len(), store.len());
-    // SAFETY: the call takes every number, reads at most the bytes of `plane`
-    // and `store`, and writes at most the one number behind each of the two
-    // references, which are ours alone while the call lasts.
-    unsafe {
-        desk_busy(
-            plane.as_ptr(),
-            length,
-            grid,
-            store.as_ptr(),
-            room,
-            parity,
-            busy,
-            total,
-        )
-    }
-}
-
-/// The cadence of each measured entry of twelve bytes, from a fresh detector: 0
-/// None, 1 Whole, 2 Drop, 3 Spanning. Gives 0, and a byte for each entry at the
-/// start of `out`; or 3, 6, 7 or 9, and then `out` is untouched.
-#[inline]
-pub fn cadences(entries: &[u8], out: &mut [u8]) -> u8 {
-    // SAFETY: the call takes every byte, reads at most those of `entries`, and
-    // writes at most those of `out`, which are ours alone while the call lasts.
-    unsafe { desk_cadences(entries.as_ptr(), entries.len(), out.as_mut_ptr(), out.len()) }
-}
-
-/// A fresh detector at the start of `state`. Gives 0; or 7, and then `state` is
-/// untouched.
-#[inline]
-pub fn detector_new(state: &mut [u8]) -> u8 {
-    // SAFETY: the call writes at most the bytes of `state`, which are ours alone
-    // while the call lasts.
-    unsafe { desk_detector_new(state.as_mut_ptr(), state.len()) }
-}
-
-/// Resets the detector in `state`. Gives 0; or 6, and then `state` is untouched.
-#[inline]
-pub fn detector_reset(state: &mut [u8]) -> u8 {
-    // SAFETY: as for `detector_new`; any bytes are taken for a detector.
-    unsafe { desk_detector_reset(state.as_mut_ptr(), state.len()) }
-}
-
-/// Whether the detector in `state` is locked. Gives 0, and 0 or 1 in `locked`;
-/// or 6, and then `locked` is untouched.
-#[inline]
-pub fn detector_locked(state: &[u8], locked: &mut u8) -> u8 {
-    // SAFETY: the call takes any bytes for a detector, reads at most those of
-    // `state`, and writes at most the one byte behind `locked`, which is ours
-    // alone while the call lasts.
-    unsafe { desk_detector_locked(state.as_ptr(), state.len(), locked) }
-}
-
-/// The cadence of the frame that comes after `ahead` others. Gives 0, and the
-/// cadence in `cadence`; or 6 or 10, and then `cadence` is untouched.
-#[inline]
-pub fn detector_predict(state: &[u8], ahead: u64, cadence: &mut u8) -> u8 {
-    // SAFETY: as for `detector_locked`.
-    unsafe { desk_detector_predict(state.as_ptr(), state.len(), ahead, cadence) }
-}
-
-/// Takes counts of a frame led by the field `parity`, or none where `present` is
-/// 0: busy and all blocks of the leading field, then of the trailing. Gives 0,
-/// and the frame's cadence in `cadence`; or 3, 6 or 9, and then `state` and
-/// `cadence` are untouched.
-#[inline]
-#[allow(clippy::too_many_arguments)]
-pub fn detector_push_measured(
-    state: &mut [u8],
-    parity: u8,
-    present: u8,
-    busy: u64,
-    total: u64,
-    other_busy: u64,
-    other_total: u64,
-    cadence: &mut u8,
-) -> u8 {
-    // SAFETY: the call takes every number and any bytes for a detector, and
-    // writes at most the bytes of `state` and the one behind `cadence`, which
-    // are ours alone while the call lasts.
-    unsafe {
-        desk_detector_push_measured(
-            state.as_mut_ptr(),
-            state.len(),
-            parity,
-            present,
-            busy,
-            total,
-            other_busy,
-            other_total,
-            cadence,
-        )
-    }
-}
-
-/// Takes a picture led by the field `parity`, compares it with the frame that
-/// `store` keeps, and keeps it there. Gives 0, and the frame's cadence in
-/// `cadence`; or 3, 4, 6, 7 or 9, and then `state`, `store` and `cadence` are
-/// untouched.
-#[inline]
-pub fn detector_push(
-    state: &mut [u8],
-    parity: u8,
-    plane: &[u8],
-    grid: GridNumbers,
-    store: &mut [u8],
-    cadence: &mut u8,
-) -> u8 {
-    // SAFETY: as for `detector_push_measured`, with the bytes of `plane` for
-    // reading, and those of `store`, which are ours alone as well.
-    unsafe {
-        desk_detector_push(
-            state.as_mut_ptr(),
-            state.len(),
-            parity,
-            plane.as_ptr(),
-            plane.len(),
-            grid,
-            store.as_mut_ptr(),
-            store.len(),
-            cadence,
-        )
-    }
-}
-
 /// [`busy()`] with its answer as a value.
 pub fn counts_of(
     plane: &[u8],
@@ -249,7 +48,7 @@ pub fn counts_of(
     field: Parity,
 ) -> Result<Counts, Refusal> {
     let mut counts = Counts { busy: 0, total: 0 };
-    Refusal::check(busy(
+    Refusal::check(calls::busy(
         plane,
         grid,
         store,
@@ -277,7 +76,7 @@ impl Default for Detector {
 impl Detector {
     pub fn new() -> Self {
         let mut state = [0; STATE_BYTES];
-        let number = detector_new(&mut state);
+        let number = calls::detector_new(&mut state);
         assert_eq!(number, 0, "desk_detector_new needs no more than the state");
         Self {
             state,
@@ -287,13 +86,13 @@ impl Detector {
 
     /// Starts again; only which field led in the last frame is remembered.
     pub fn reset(&mut self) {
-        let number = detector_reset(&mut self.state);
+        let number = calls::detector_reset(&mut self.state);
         assert_eq!(number, 0, "desk_detector_reset refuses no whole state");
     }
 
     pub fn locked(&self) -> bool {
         let mut locked = 0;
-        let number = detector_locked(&self.state, &mut locked);
+        let number = calls::detector_locked(&self.state, &mut locked);
         assert_eq!(number, 0, "desk_detector_locked refuses no whole state");
         locked == 1
     }
@@ -302,7 +101,7 @@ impl Detector {
     /// 1,000,000.
     pub fn predict(&self, ahead: u64) -> Result<Cadence, Refusal> {
         let mut cadence = 0;
-        Refusal::check(detector_predict(&self.state, ahead, &mut cadence))?;
+        Refusal::check(calls::detector_predict(&self.state, ahead, &mut cadence))?;
         Ok(Cadence::named(cadence))
     }
 
@@ -316,7 +115,7 @@ impl Detector {
         let nothing = Counts { busy: 0, total: 0 };
         let [leading, trailing] = measured.unwrap_or([nothing; 2]);
         let mut cadence = 0;
-        Refusal::check(detector_push_measured(
+        Refusal::check(calls::detector_push_measured(
             &mut self.state,
             first as u8,
             measured.is_some().into(),
@@ -343,7 +142,7 @@ impl Detector {
             self.store.resize(samples as usize, 0);
         }
         let mut cadence = 0;
-        Refusal::check(detector_push(
+        Refusal::check(calls::detector_push(
             &mut self.state,
             first as u8,
             plane,
@@ -357,11 +156,7 @@ impl Detector {
 
 #[cfg(test)]
 mod tests {
-    use super::{
-        Cadence, Counts, Detector, GridNumbers, Refusal, STATE_BYTES, cadences, counts_of,
-        detector_locked, detector_new, detector_predict, detector_push, detector_push_measured,
-        detector_reset,
-    };
+    use super::{Cadence, Counts, Detector, GridNumbers, Refusal, STATE_BYTES, calls, counts_of};
     use crate::Parity::{Bottom, Top};
 
     /// Busy blocks of the thirteen entries of the reel file of docs/RULES.md; none of
@@ -421,16 +216,16 @@ mod tests {
             entries.extend(numbers.iter().flat_map(|n| (*n as u16).to_le_bytes()));
         }
         let mut out = [9; 14];
-        assert_eq!(cadences(&entries, &mut out), 0);
+        assert_eq!(calls::cadences(&entries, &mut out), 0);
         let wanted: Vec<u8> = ANSWERS.iter().map(|cadence| *cadence as u8).collect();
         assert_eq!((&out[..13], out[13]), (&wanted[..], 9));
-        assert_eq!(cadences(&[], &mut []), 0);
+        assert_eq!(calls::cadences(&[], &mut []), 0);
         out = [9; 14];
-        assert_eq!(cadences(&entries, &mut out[..12]), 7);
-        assert_eq!(cadences(&entries[1..], &mut out[..12]), 3);
-        assert_eq!(cadences(&entries[..155], &mut out[..12]), 6);
+        assert_eq!(calls::cadences(&entries, &mut out[..12]), 7);
+        assert_eq!(calls::cadences(&entries[1..], &mut out[..12]), 3);
+        assert_eq!(calls::cadences(&entries[..155], &mut out[..12]), 6);
         entries[2] = 2;
-        assert_eq!(cadences(&entries[..155], &mut out[..12]), 3);
+        assert_eq!(calls::cadences(&entries[..155], &mut out[..12]), 3);
         assert_eq!(out, [9; 14]);
     }
 
@@ -523,27 +318,27 @@ mod tests {
         for fill in [0x01, 0x7F, 0xFF] {
             let mut state = [fill; STATE_BYTES];
             let (mut locked, mut cadence) = (9, 9);
-            assert_eq!(detector_locked(&state, &mut locked), 0);
-            assert_eq!(detector_predict(&state, 5, &mut cadence), 0);
+            assert_eq!(calls::detector_locked(&state, &mut locked), 0);
+            assert_eq!(calls::detector_predict(&state, 5, &mut cadence), 0);
             assert!(locked <= 1 && cadence <= 3, "{locked} {cadence}");
 
             // More frames than are ever taken; then none.
             cadence = 9;
-            let number = detector_push_measured(&mut state, 0, 1, 0, 9, 9, 9, &mut cadence);
+            let number = calls::detector_push_measured(&mut state, 0, 1, 0, 9, 9, 9, &mut cadence);
             assert_eq!((number, cadence, state), (9, 9, [fill; STATE_BYTES]));
             state[TAKEN].fill(0);
-            let number = detector_push_measured(&mut state, 0, 1, 0, 9, 9, 9, &mut cadence);
+            let number = calls::detector_push_measured(&mut state, 0, 1, 0, 9, 9, 9, &mut cadence);
             assert!(number == 0 && cadence <= 3, "{number} {cadence}");
 
             // The frame that is said to be kept is larger than the store.
             let mut store = [7; 64 * 16];
             let was = state;
             cadence = 9;
-            let number = detector_push(&mut state, 0, &plane, GRID, &mut store, &mut cadence);
+            let number = calls::detector_push(&mut state, 0, &plane, GRID, &mut store, &mut cadence);
             assert_eq!((number, cadence, state), (6, 9, was));
             assert_eq!(store, [7; 64 * 16]);
-            assert_eq!(detector_reset(&mut state), 0);
-            let number = detector_push(&mut state, 0, &plane, GRID, &mut store, &mut cadence);
+            assert_eq!(calls::detector_reset(&mut state), 0);
+            let number = calls::detector_push(&mut state, 0, &plane, GRID, &mut store, &mut cadence);
             assert_eq!((number, cadence, store), (0, 0, plane));
         }
     }
@@ -551,6 +346,6 @@ mod tests {
     #[test]
     fn a_fresh_detector_needs_its_bytes() {
         let mut state = [5; STATE_BYTES - 1];
-        assert_eq!((detector_new(&mut state), state), (7, [5; STATE_BYTES - 1]));
+        assert_eq!((calls::detector_new(&mut state), state), (7, [5; STATE_BYTES - 1]));
     }
 }

@@ -1,152 +1,18 @@
 //! The rows a field lacks, by number: crates/desk/src/filters.rt.
 
-use crate::{PlaneNumbers, Refusal};
-
-unsafe extern "C" {
-    fn desk_edge(
-        cur: *const u8,
-        cur_len: usize,
-        shape: PlaneNumbers,
-        x: i32,
-        y: i32,
-        slant: *mut i32,
-    ) -> u8;
-
-    fn desk_sample(
-        quality: u8,
-        before: *const u8,
-        before_len: usize,
-        before_shape: PlaneNumbers,
-        cur: *const u8,
-        cur_len: usize,
-        cur_shape: PlaneNumbers,
-        after: *const u8,
-        after_len: usize,
-        after_shape: PlaneNumbers,
-        first: u32,
-        mate: u32,
-        x: i32,
-        y: i32,
-        value: *mut f32,
-    ) -> u8;
-
-    fn desk_plane(
-        quality: u8,
-        first: u8,
-        before: *const u8,
-        before_len: usize,
-        before_shape: PlaneNumbers,
-        cur: *const u8,
-        cur_len: usize,
-        cur_shape: PlaneNumbers,
-        after: *const u8,
-        after_len: usize,
-        after_shape: PlaneNumbers,
-        out: *mut f32,
-        out_len: usize,
-    ) -> u8;
-}
-
-/// How the edge runs at a place of a missing row. Gives 0, and -2 to 2 in
-/// `slant`; or 3, 4 or 6, and then `slant` is untouched.
-#[inline]
-pub fn edge(cur: &[u8], shape: PlaneNumbers, x: i32, y: i32, slant: &mut i32) -> u8 {
-    // SAFETY: the call takes every number, reads at most the bytes of `cur`,
-    // and writes at most the one number behind `slant`, which is ours alone
-    // while the call lasts.
-    unsafe { desk_edge(cur.as_ptr(), cur.len(), shape, x, y, slant) }
-}
-
-/// The value at a place. `quality` is 0 for Weave, 1 for Bob, 2 for Yadif, 3
-/// for Bwdif; `first` is 0 or 1; `mate` is 0, 1, or 2 for none. Gives 0, and
-/// the value in `value`; or 3 to 6, and then `value` is untouched.
-#[inline]
-#[allow(clippy::too_many_arguments)]
-pub fn sample(
-    quality: u8,
-    before: &[u8],
-    before_shape: PlaneNumbers,
-    cur: &[u8],
-    cur_shape: PlaneNumbers,
-    after: &[u8],
-    after_shape: PlaneNumbers,
-    first: u32,
-    mate: u32,
-    x: i32,
-    y: i32,
-    value: &mut f32,
-) -> u8 {
-    // SAFETY: as for `edge`, with the bytes of the three planes, which may be
-    // the same ones, and the one number behind `value`.
-    unsafe {
-        desk_sample(
-            quality,
-            before.as_ptr(),
-            before.len(),
-            before_shape,
-            cur.as_ptr(),
-            cur.len(),
-            cur_shape,
-            after.as_ptr(),
-            after.len(),
-            after_shape,
-            first,
-            mate,
-            x,
-            y,
-            value,
-        )
-    }
-}
-
-/// Every value of a field's plane, row by row, with the rows that it lacks.
-/// `quality` and `first` are as for [`sample`], without a mate. Gives 0, and
-/// height times width values at the start of `out`; or 3 to 7, and then `out`
-/// is untouched.
-#[inline]
-#[allow(clippy::too_many_arguments)]
-pub fn plane(
-    quality: u8,
-    first: u8,
-    before: &[u8],
-    before_shape: PlaneNumbers,
-    cur: &[u8],
-    cur_shape: PlaneNumbers,
-    after: &[u8],
-    after_shape: PlaneNumbers,
-    out: &mut [f32],
-) -> u8 {
-    // SAFETY: as for `sample`, with the floats of `out`, which are ours alone
-    // while the call lasts.
-    unsafe {
-        desk_plane(
-            quality,
-            first,
-            before.as_ptr(),
-            before.len(),
-            before_shape,
-            cur.as_ptr(),
-            cur.len(),
-            cur_shape,
-            after.as_ptr(),
-            after.len(),
-            after_shape,
-            out.as_mut_ptr(),
-            out.len(),
-        )
-    }
-}
+use crate::calls::PlaneNumbers;
+use crate::{Refusal, calls};
 
 /// [`edge`] with its answer as a value.
 pub fn slant_of(cur: &[u8], shape: PlaneNumbers, x: i32, y: i32) -> Result<i32, Refusal> {
     let mut slant = 0;
-    Refusal::check(edge(cur, shape, x, y, &mut slant))?;
+    Refusal::check(calls::edge(cur, shape, x, y, &mut slant))?;
     Ok(slant)
 }
 
 #[cfg(test)]
 mod tests {
-    use super::{PlaneNumbers, Refusal, plane, sample, slant_of};
+    use super::{PlaneNumbers, Refusal, calls, slant_of};
 
     const SHAPE: PlaneNumbers = PlaneNumbers {
         width: 5,
@@ -179,7 +45,7 @@ mod tests {
         let [before, cur, after] = [51, 102, 255].map(|code| [code; 15]);
         let of = |quality, first, mate, y| {
             let mut value = -1.0;
-            let number = sample(
+            let number = calls::sample(
                 quality, &before, SHAPE, &cur, SHAPE, &after, SHAPE, first, mate, 2, y, &mut value,
             );
             (number, value)
@@ -201,11 +67,11 @@ mod tests {
         let bytes = [0; 15];
         let narrow = PlaneNumbers { width: 4, ..SHAPE };
         let mut value = 0.0;
-        let number = sample(
+        let number = calls::sample(
             1, &bytes, SHAPE, &bytes, SHAPE, &bytes, narrow, 0, 2, 0, 0, &mut value,
         );
         assert_eq!(number, 5);
-        let number = sample(
+        let number = calls::sample(
             1,
             &bytes[1..],
             SHAPE,
@@ -233,7 +99,7 @@ mod tests {
         let other = [255; 6];
         let cur = [0, 51, 7, 7, 102, 153];
         let mut out = [9.0; 7];
-        let number = plane(1, 0, &other, shape, &cur, shape, &other, shape, &mut out);
+        let number = calls::plane(1, 0, &other, shape, &cur, shape, &other, shape, &mut out);
         assert_eq!(number, 0);
         // Bob's row is half of those above and below it, and the last float is
         // not the plane's.
@@ -241,7 +107,7 @@ mod tests {
         let near = |(found, wanted): (&f32, f32)| (found - wanted).abs() < 1e-6;
         assert!(out.iter().zip(rows).all(near), "{out:?}");
         out = [9.0; 7];
-        let number = plane(
+        let number = calls::plane(
             1,
             0,
             &other,

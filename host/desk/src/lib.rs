@@ -1,16 +1,8 @@
-//! The exported calls of the proved crate `desk`, for Rust programs, in the
-//! files of the same names; and those of the crates beside it: `picturedesk` in
-//! pictures.rs, `filmdesk` in films.rs, `weavedesk` in weaves.rs.
+//! The exported calls of the proved crates, for Rust programs.
 //!
-//! Each call has a wrapper of its own shape: the same numbers go in, the same
-//! number comes out, and what is lent is lent as a reference. It is safe,
-//! because the proved code demands nothing of its caller beyond what the
-//! types say. Where it is small, a friendlier form stands beside it, with
-//! [`Refusal`] as its error.
-//!
-//! Every declaration is held to the sources of those crates by
-//! `tests/declarations.rs`: by name, order and type of each parameter; a slice
-//! `name` is `name` and `name_len`.
+//! [`calls`] has every call as it is exported: numbers and slices in, a number
+//! out. It is made from the exports' own source by tools/calls. Beside it
+//! stand friendlier forms, with [`Refusal`] as their error.
 
 mod colours;
 mod combs;
@@ -22,20 +14,15 @@ mod planes;
 mod refusal;
 mod weaves;
 
-pub use colours::{Conversion, luma, luma_of, quantise, rgb_of, to_rgb};
-pub use combs::{comb, comb_of, comb_rgba, comb_rgba_of};
-pub use fields::{Parity, first_field, first_parity};
-pub use films::{
-    Cadence, Counts, Detector, ENTRY_BYTES, GridNumbers, STATE_BYTES, busy, cadences, counts_of,
-    detector_locked, detector_new, detector_predict, detector_push, detector_push_measured,
-    detector_reset,
-};
-pub use filters::{edge, plane, sample, slant_of};
-pub use pictures::{FrameNumbers, Lent, OutputNumbers, picture, picture_into};
-pub use planes::{PlaneNumbers, at, code, code_of, value_of};
+#[rustfmt::skip]
+pub mod calls;
+
+pub use colours::{luma_of, rgb_of};
+pub use combs::{comb_of, comb_rgba_of};
+pub use fields::{Parity, first_parity};
+pub use films::{Cadence, Counts, Detector, ENTRY_BYTES, STATE_BYTES, counts_of};
+pub use filters::slant_of;
+pub use pictures::{Lent, picture_into};
+pub use planes::{code_of, value_of};
 pub use refusal::Refusal;
-pub use weaves::{
-    FieldNumbers, FormatNumbers, LinesNumbers, ReadbackNumbers, WEAVER_BYTES, Weaver, WovenPicture,
-    line_number, readback, weave, weaver_clear, weaver_new, weaver_push, woven, woven_line,
-    woven_planes,
-};
+pub use weaves::{WEAVER_BYTES, Weaver, WovenPicture, woven_planes};

@@ -1,122 +1,7 @@
 //! Pictures by number: crates/picturedesk/src/lib.rt.
 
-use crate::{Conversion, PlaneNumbers, Refusal};
-
-/// The shapes of a frame's three planes. Where two components share a plane,
-/// both of them name it, and the same bytes are lent twice.
-#[repr(C)]
-#[derive(Debug, Clone, Copy, PartialEq, Eq)]
-pub struct FrameNumbers {
-    pub luma: PlaneNumbers,
-    pub cb: PlaneNumbers,
-    pub cr: PlaneNumbers,
-}
-
-/// What is shown of three frames.
-#[repr(C)]
-#[derive(Debug, Clone, Copy, PartialEq, Eq)]
-pub struct OutputNumbers {
-    /// The field: 0 top, 1 bottom, 2 neither, which is Weave whatever the
-    /// quality.
-    pub field: u32,
-    /// The field whose rows come from the earlier frame when film is put
-    /// together again, numbered alike.
-    pub weave: u32,
-    /// The frame that serves as earlier: 0 the previous one, 1 the current one,
-    /// 2 the next.
-    pub earlier: u32,
-    /// The frame that serves as later, numbered alike.
-    pub later: u32,
-}
-
-unsafe extern "C" {
-    fn desk_picture(
-        quality: u8,
-        output: OutputNumbers,
-        conversion: Conversion,
-        previous: FrameNumbers,
-        previous_luma: *const u8,
-        previous_luma_len: usize,
-        previous_cb: *const u8,
-        previous_cb_len: usize,
-        previous_cr: *const u8,
-        previous_cr_len: usize,
-        current: FrameNumbers,
-        current_luma: *const u8,
-        current_luma_len: usize,
-        current_cb: *const u8,
-        current_cb_len: usize,
-        current_cr: *const u8,
-        current_cr_len: usize,
-        following: FrameNumbers,
-        following_luma: *const u8,
-        following_luma_len: usize,
-        following_cb: *const u8,
-        following_cb_len: usize,
-        following_cr: *const u8,
-        following_cr_len: usize,
-        out: *mut u8,
-        out_len: usize,
-    ) -> u8;
-}
-
-/// A picture of four bytes a pixel: red, green, blue and 255. `quality` is 0
-/// for Weave, 1 for Bob, 2 for Yadif, 3 for Bwdif. Gives 0, and height times
-/// width pixels at the start of `out`; or 3 to 8, and then `out` is untouched.
-#[inline]
-#[allow(clippy::too_many_arguments)]
-pub fn picture(
-    quality: u8,
-    output: OutputNumbers,
-    conversion: Conversion,
-    previous: FrameNumbers,
-    previous_luma: &[u8],
-    previous_cb: &[u8],
-    previous_cr: &[u8],
-    current: FrameNumbers,
-    current_luma: &[u8],
-    current_cb: &[u8],
-    current_cr: &[u8],
-    following: FrameNumbers,
-    following_luma: &[u8],
-    following_cb: &[u8],
-    following_cr: &[u8],
-    out: &mut [u8],
-) -> u8 {
-    // SAFETY: the call takes every number, reads at most the bytes of the nine
-    // planes, of which several may be the same ones, and writes at most the
-    // bytes of `out`, which are ours alone while the call lasts.
-    unsafe {
-        desk_picture(
-            quality,
-            output,
-            conversion,
-            previous,
-            previous_luma.as_ptr(),
-            previous_luma.len(),
-            previous_cb.as_ptr(),
-            previous_cb.len(),
-            previous_cr.as_ptr(),
-            previous_cr.len(),
-            current,
-            current_luma.as_ptr(),
-            current_luma.len(),
-            current_cb.as_ptr(),
-            current_cb.len(),
-            current_cr.as_ptr(),
-            current_cr.len(),
-            following,
-            following_luma.as_ptr(),
-            following_luma.len(),
-            following_cb.as_ptr(),
-            following_cb.len(),
-            following_cr.as_ptr(),
-            following_cr.len(),
-            out.as_mut_ptr(),
-            out.len(),
-        )
-    }
-}
+use crate::calls::{Conversion, FrameNumbers, OutputNumbers};
+use crate::{Refusal, calls};
 
 /// A frame that is lent: its shapes, and the bytes of each plane.
 #[derive(Debug, Clone, Copy)]
@@ -135,7 +20,7 @@ pub fn picture_into(
     [previous, current, following]: [Lent<'_>; 3],
     out: &mut [u8],
 ) -> Result<(), Refusal> {
-    Refusal::check(picture(
+    Refusal::check(calls::picture(
         quality,
         output,
         conversion,
@@ -157,8 +42,9 @@ pub fn picture_into(
 
 #[cfg(test)]
 mod tests {
-    use super::{Conversion, FrameNumbers, Lent, OutputNumbers, PlaneNumbers, picture_into};
+    use super::{Conversion, FrameNumbers, Lent, OutputNumbers, picture_into};
     use crate::Refusal;
+    use crate::calls::PlaneNumbers;
 
     /// Without colour, and luma as it is.
     const GREY: Conversion = Conversion {

@@ -1,74 +1,19 @@
 //! Planes by number, and the reads of one sample: crates/desk/src/planes.rt.
 
-use crate::Refusal;
-
-/// The shape of a plane. Any numbers may stand here; those outside the bounds
-/// of docs/RULES.md ("Planes") are refused by the call that gets them.
-#[repr(C)]
-#[derive(Debug, Clone, Copy, PartialEq, Eq)]
-pub struct PlaneNumbers {
-    /// Samples of one component in a row.
-    pub width: u32,
-    pub height: u32,
-    /// Bits of a sample.
-    pub depth: u32,
-    /// Bytes from one row to the next.
-    pub stride: u32,
-    /// 0 planar; 1 the luma of a biplanar frame; 2 and 3 the first and the
-    /// second of two components that share a plane.
-    pub layout: u32,
-}
-
-unsafe extern "C" {
-    fn desk_code(
-        plane: *const u8,
-        plane_len: usize,
-        shape: PlaneNumbers,
-        x: i32,
-        y: i32,
-        code: *mut u16,
-    ) -> u8;
-
-    fn desk_at(
-        plane: *const u8,
-        plane_len: usize,
-        shape: PlaneNumbers,
-        x: i32,
-        y: i32,
-        value: *mut f32,
-    ) -> u8;
-}
-
-/// The code at a place inside the plane. Gives 0, and the code in `code`; or
-/// 3, 4 or 6, and then `code` is untouched.
-#[inline]
-pub fn code(plane: &[u8], shape: PlaneNumbers, x: i32, y: i32, code: &mut u16) -> u8 {
-    // SAFETY: the call takes every number, reads at most the bytes of `plane`,
-    // and writes at most the one number behind `code`, which is ours alone
-    // while the call lasts.
-    unsafe { desk_code(plane.as_ptr(), plane.len(), shape, x, y, code) }
-}
-
-/// The value at coordinates from -65,536 to 65,536, each clamped to the plane.
-/// Gives 0, and the value in `value`; or 3, 4 or 6, and then `value` is
-/// untouched.
-#[inline]
-pub fn at(plane: &[u8], shape: PlaneNumbers, x: i32, y: i32, value: &mut f32) -> u8 {
-    // SAFETY: as for `code`, with the one number behind `value`.
-    unsafe { desk_at(plane.as_ptr(), plane.len(), shape, x, y, value) }
-}
+use crate::calls::PlaneNumbers;
+use crate::{Refusal, calls};
 
 /// [`code`] with its answer as a value.
 pub fn code_of(plane: &[u8], shape: PlaneNumbers, x: i32, y: i32) -> Result<u16, Refusal> {
     let mut found = 0;
-    Refusal::check(code(plane, shape, x, y, &mut found))?;
+    Refusal::check(calls::code(plane, shape, x, y, &mut found))?;
     Ok(found)
 }
 
 /// [`at`] with its answer as a value.
 pub fn value_of(plane: &[u8], shape: PlaneNumbers, x: i32, y: i32) -> Result<f32, Refusal> {
     let mut found = 0.0;
-    Refusal::check(at(plane, shape, x, y, &mut found))?;
+    Refusal::check(calls::at(plane, shape, x, y, &mut found))?;
     Ok(found)
 }
 

@@ -1,349 +1,10 @@
 //! Weaving and readback by number: crates/weavedesk/src/lib.rt.
 
-use crate::{Parity, Refusal};
-
-/// The lines of a plane of a field. Any numbers may stand here; those outside
-/// the bounds of docs/RULES.md ("Planes") are refused by the call that gets them.
-#[repr(C)]
-#[derive(Debug, Clone, Copy, PartialEq, Eq)]
-pub struct LinesNumbers {
-    /// Samples in a line.
-    pub width: u32,
-    /// Lines of the field: at most 2,176.
-    pub height: u32,
-    /// Bits of a sample.
-    pub depth: u32,
-    /// Bytes from one line to the next.
-    pub stride: u32,
-}
-
-/// The three planes of a field.
-#[repr(C)]
-#[derive(Debug, Clone, Copy, PartialEq, Eq)]
-pub struct FieldNumbers {
-    pub luma: LinesNumbers,
-    pub cb: LinesNumbers,
-    pub cr: LinesNumbers,
-}
-
-/// What is said of a stream's pictures. The last three are 0 or 1.
-#[repr(C)]
-#[derive(Debug, Clone, Copy, PartialEq, Eq)]
-pub struct FormatNumbers {
-    pub width: u32,
-    pub height: u32,
-    pub depth: u32,
-    pub rate_numerator: u32,
-    pub rate_denominator: u32,
-    pub field_pictures: u32,
-    pub progressive: u32,
-    pub woven: u32,
-}
-
-/// What was read back: how many planes, the frame's size and depth, and each
-/// plane's bytes from one row to the next.
-#[repr(C)]
-#[derive(Debug, Clone, Copy, PartialEq, Eq)]
-pub struct ReadbackNumbers {
-    /// 2 where the chroma components share a plane, or 3.
-    pub planes: u32,
-    pub width: u32,
-    pub height: u32,
-    pub depth: u32,
-    pub luma_pitch: u32,
-    pub second_pitch: u32,
-    pub third_pitch: u32,
-}
+use crate::calls::{FieldNumbers, LinesNumbers};
+use crate::{Parity, Refusal, calls};
 
 /// Bytes that a weaver is kept in between two calls.
 pub const WEAVER_BYTES: usize = 56;
-
-unsafe extern "C" {
-    fn desk_weave(
-        top: FieldNumbers,
-        top_luma: *const u8,
-        top_luma_len: usize,
-        top_cb: *const u8,
-        top_cb_len: usize,
-        top_cr: *const u8,
-        top_cr_len: usize,
-        bottom: FieldNumbers,
-        bottom_luma: *const u8,
-        bottom_luma_len: usize,
-        bottom_cb: *const u8,
-        bottom_cb_len: usize,
-        bottom_cr: *const u8,
-        bottom_cr_len: usize,
-        out_luma: *mut u8,
-        out_luma_len: usize,
-        out_cb: *mut u8,
-        out_cb_len: usize,
-        out_cr: *mut u8,
-        out_cr_len: usize,
-    ) -> u8;
-
-    fn desk_line_number(
-        top: LinesNumbers,
-        top_bytes: u64,
-        bottom: LinesNumbers,
-        bottom_bytes: u64,
-        y: u32,
-    ) -> u8;
-
-    fn desk_woven_line(
-        top: *const u8,
-        top_len: usize,
-        top_lines: LinesNumbers,
-        bottom: *const u8,
-        bottom_len: usize,
-        bottom_lines: LinesNumbers,
-        y: u32,
-        out: *mut u8,
-        out_len: usize,
-    ) -> u8;
-
-    fn desk_woven(field: FormatNumbers) -> FormatNumbers;
-
-    fn desk_readback(
-        about: ReadbackNumbers,
-        luma: *const u8,
-        luma_len: usize,
-        second: *const u8,
-        second_len: usize,
-        third: *const u8,
-        third_len: usize,
-        out_luma: *mut u8,
-        out_luma_len: usize,
-        out_cb: *mut u8,
-        out_cb_len: usize,
-        out_cr: *mut u8,
-        out_cr_len: usize,
-    ) -> u8;
-
-    fn desk_weaver_new(state: *mut u8, state_len: usize) -> u8;
-
-    fn desk_weaver_clear(state: *mut u8, state_len: usize) -> u8;
-
-    fn desk_weaver_push(
-        state: *mut u8,
-        state_len: usize,
-        parity: u8,
-        timed: u8,
-        time: i64,
-        shape: FieldNumbers,
-        luma: *const u8,
-        luma_len: usize,
-        cb: *const u8,
-        cb_len: usize,
-        cr: *const u8,
-        cr_len: usize,
-        store: *mut u8,
-        store_len: usize,
-        out_luma: *mut u8,
-        out_luma_len: usize,
-        out_cb: *mut u8,
-        out_cb_len: usize,
-        out_cr: *mut u8,
-        out_cr_len: usize,
-        picture: *mut u8,
-        earlier_timed: *mut u8,
-        earlier_time: *mut i64,
-    ) -> u8;
-}
-
-/// The lines of two fields in turn, the top field's first; the planes of each
-/// are luma, cb, cr. Gives 0, and each woven plane, tightly packed, at the
-/// start of its output; or 4 to 7, and then the outputs are untouched.
-#[inline]
-pub fn weave(
-    top: FieldNumbers,
-    top_planes: [&[u8]; 3],
-    bottom: FieldNumbers,
-    bottom_planes: [&[u8]; 3],
-    outs: [&mut [u8]; 3],
-) -> u8 {
-    let [top_luma, top_cb, top_cr] = top_planes;
-    let [bottom_luma, bottom_cb, bottom_cr] = bottom_planes;
-    let [out_luma, out_cb, out_cr] = outs;
-    // SAFETY: the call takes every number, reads at most the bytes of the six
-    // planes, which may be the same ones, and writes at most those of the three
-    // outputs, which are ours alone while the call lasts, and apart from each
-    // other.
-    unsafe {
-        desk_weave(
-            top,
-            top_luma.as_ptr(),
-            top_luma.len(),
-            top_cb.as_ptr(),
-            top_cb.len(),
-            top_cr.as_ptr(),
-            top_cr.len(),
-            bottom,
-            bottom_luma.as_ptr(),
-            bottom_luma.len(),
-            bottom_cb.as_ptr(),
-            bottom_cb.len(),
-            bottom_cr.as_ptr(),
-            bottom_cr.len(),
-            out_luma.as_mut_ptr(),
-            out_luma.len(),
-            out_cb.as_mut_ptr(),
-            out_cb.len(),
-            out_cr.as_mut_ptr(),
-            out_cr.len(),
-        )
-    }
-}
-
-/// The number of a single woven line, from the lengths of the two planes: 0,
-/// or 3 to 6.
-#[inline]
-pub fn line_number(
-    top: LinesNumbers,
-    top_bytes: u64,
-    bottom: LinesNumbers,
-    bottom_bytes: u64,
-    y: u32,
-) -> u8 {
-    // SAFETY: the call takes every number, and touches no memory of ours.
-    unsafe { desk_line_number(top, top_bytes, bottom, bottom_bytes, y) }
-}
-
-/// The bytes of a single woven line. Gives 0, and the line at the start of
-/// `out`; or 3 to 7, and then `out` is untouched.
-#[inline]
-pub fn woven_line(
-    top: &[u8],
-    top_lines: LinesNumbers,
-    bottom: &[u8],
-    bottom_lines: LinesNumbers,
-    y: u32,
-    out: &mut [u8],
-) -> u8 {
-    // SAFETY: as for `weave`, with the bytes of two planes and of one output.
-    unsafe {
-        desk_woven_line(
-            top.as_ptr(),
-            top.len(),
-            top_lines,
-            bottom.as_ptr(),
-            bottom.len(),
-            bottom_lines,
-            y,
-            out.as_mut_ptr(),
-            out.len(),
-        )
-    }
-}
-
-/// The format of the frames woven from fields of a format. A flag other than 0
-/// counts as 1. Never refused.
-#[inline]
-pub fn woven(field: FormatNumbers) -> FormatNumbers {
-    // SAFETY: the call takes every number, and touches no memory of ours.
-    unsafe { desk_woven(field) }
-}
-
-/// A frame read back, without padding, in three planes. Gives 0, and each
-/// plane at the start of its output; or 1, 2, 4, 6 or 7, and then the outputs
-/// are untouched. Of two planes the second has both chroma components, and the
-/// third is not looked at.
-#[inline]
-pub fn readback(about: ReadbackNumbers, planes: [&[u8]; 3], outs: [&mut [u8]; 3]) -> u8 {
-    let [luma, second, third] = planes;
-    let [out_luma, out_cb, out_cr] = outs;
-    // SAFETY: as for `weave`, with the bytes of three planes.
-    unsafe {
-        desk_readback(
-            about,
-            luma.as_ptr(),
-            luma.len(),
-            second.as_ptr(),
-            second.len(),
-            third.as_ptr(),
-            third.len(),
-            out_luma.as_mut_ptr(),
-            out_luma.len(),
-            out_cb.as_mut_ptr(),
-            out_cb.len(),
-            out_cr.as_mut_ptr(),
-            out_cr.len(),
-        )
-    }
-}
-
-/// A weaver with no field, in the first [`WEAVER_BYTES`] of `state`. Gives 0;
-/// or 7 where `state` is shorter, and then it is untouched.
-#[inline]
-pub fn weaver_new(state: &mut [u8]) -> u8 {
-    // SAFETY: the call writes at most the bytes of `state`, which are ours alone
-    // while the call lasts.
-    unsafe { desk_weaver_new(state.as_mut_ptr(), state.len()) }
-}
-
-/// Throws away the field that waits. Gives 0; or 6 where `state` is too short,
-/// and then it is untouched.
-#[inline]
-pub fn weaver_clear(state: &mut [u8]) -> u8 {
-    // SAFETY: as for `weaver_new`.
-    unsafe { desk_weaver_clear(state.as_mut_ptr(), state.len()) }
-}
-
-/// Takes a field of parity 0 (top) or 1 (bottom); where `timed` is 1 it has
-/// the time `time`. Gives 0: then `picture` is 1 where the outputs have a
-/// picture, else 0, and `earlier_timed` and `earlier_time` are the earlier
-/// field's time where there is a picture and it has one, else 0. Or gives 3 to
-/// 7, and then all that is lent is untouched. `store` keeps the field that
-/// waits, and comes back as it was left.
-#[inline]
-#[allow(clippy::too_many_arguments)]
-pub fn weaver_push(
-    state: &mut [u8],
-    parity: u8,
-    timed: u8,
-    time: i64,
-    shape: FieldNumbers,
-    planes: [&[u8]; 3],
-    store: &mut [u8],
-    outs: [&mut [u8]; 3],
-    picture: &mut u8,
-    earlier_timed: &mut u8,
-    earlier_time: &mut i64,
-) -> u8 {
-    let [luma, cb, cr] = planes;
-    let [out_luma, out_cb, out_cr] = outs;
-    // SAFETY: the call takes every number and every state, reads at most the
-    // bytes of the three planes, and writes at most those of `state`, `store`
-    // and the outputs, and the three places, all of which are ours alone while
-    // the call lasts, and apart from each other.
-    unsafe {
-        desk_weaver_push(
-            state.as_mut_ptr(),
-            state.len(),
-            parity,
-            timed,
-            time,
-            shape,
-            luma.as_ptr(),
-            luma.len(),
-            cb.as_ptr(),
-            cb.len(),
-            cr.as_ptr(),
-            cr.len(),
-            store.as_mut_ptr(),
-            store.len(),
-            out_luma.as_mut_ptr(),
-            out_luma.len(),
-            out_cb.as_mut_ptr(),
-            out_cb.len(),
-            out_cr.as_mut_ptr(),
-            out_cr.len(),
-            picture,
-            earlier_timed,
-            earlier_time,
-        )
-    }
-}
 
 impl LinesNumbers {
     /// Bytes of all lines without what pads them, if a plane of a field can be
@@ -386,8 +47,12 @@ pub fn woven_planes(
     bottom_planes: [&[u8]; 3],
 ) -> Result<[Vec<u8>; 3], Refusal> {
     let mut planes = room(top);
-    let outs = planes.each_mut().map(Vec::as_mut_slice);
-    Refusal::check(weave(top, top_planes, bottom, bottom_planes, outs))?;
+    let [luma, cb, cr] = &mut planes;
+    let [top_luma, top_cb, top_cr] = top_planes;
+    let [bottom_luma, bottom_cb, bottom_cr] = bottom_planes;
+    Refusal::check(calls::weave(
+        top, top_luma, top_cb, top_cr, bottom, bottom_luma, bottom_cb, bottom_cr, luma, cb, cr,
+    ))?;
     Ok(planes)
 }
 
@@ -408,7 +73,7 @@ impl Default for Weaver {
 impl Weaver {
     pub fn new() -> Self {
         let mut state = [0; WEAVER_BYTES];
-        let number = weaver_new(&mut state);
+        let number = calls::weaver_new(&mut state);
         assert_eq!(number, 0, "a state of this length is taken");
         Self {
             state,
@@ -418,7 +83,7 @@ impl Weaver {
 
     /// Throws away the field that waits.
     pub fn clear(&mut self) {
-        let number = weaver_clear(&mut self.state);
+        let number = calls::weaver_clear(&mut self.state);
         assert_eq!(number, 0, "a state of this length is taken");
     }
 
@@ -436,8 +101,10 @@ impl Weaver {
             self.store.resize(needed, 0);
         }
         let mut woven = room(shape);
+        let [luma, cb, cr] = planes;
+        let [out_luma, out_cb, out_cr] = &mut woven;
         let (mut picture, mut earlier_timed, mut earlier_time) = (0, 0, 0);
-        Refusal::check(weaver_push(
+        Refusal::check(calls::weaver_push(
             &mut self.state,
             match parity {
                 Parity::Top => 0,
@@ -446,9 +113,13 @@ impl Weaver {
             time.is_some().into(),
             time.unwrap_or(0),
             shape,
-            planes,
+            luma,
+            cb,
+            cr,
             &mut self.store,
-            woven.each_mut().map(Vec::as_mut_slice),
+            out_luma,
+            out_cb,
+            out_cr,
             &mut picture,
             &mut earlier_timed,
             &mut earlier_time,
@@ -462,10 +133,8 @@ impl Weaver {
 
 #[cfg(test)]
 mod tests {
-    use super::{
-        FieldNumbers, FormatNumbers, LinesNumbers, Parity, ReadbackNumbers, Refusal, Weaver,
-        line_number, readback, woven, woven_line, woven_planes,
-    };
+    use super::{FieldNumbers, LinesNumbers, Parity, Refusal, Weaver, calls, woven_planes};
+    use crate::calls::{FormatNumbers, ReadbackNumbers};
 
     const fn lines(width: u32, height: u32, stride: u32) -> LinesNumbers {
         LinesNumbers {
@@ -511,14 +180,14 @@ mod tests {
         let (top, bottom) = (FIELD.luma, lines(3, 2, 4));
         for (y, expected) in both()[0].chunks(3).enumerate() {
             let mut out = [0; 3];
-            let number = woven_line(TOP[0], top, BOTTOM[0], bottom, y as u32, &mut out);
+            let number = calls::woven_line(TOP[0], top, BOTTOM[0], bottom, y as u32, &mut out);
             assert_eq!((number, &out[..]), (0, expected));
-            assert_eq!(line_number(top, 7, bottom, 7, y as u32), 0);
+            assert_eq!(calls::line_number(top, 7, bottom, 7, y as u32), 0);
         }
-        assert_eq!(line_number(top, 7, bottom, 7, 4), 3);
-        assert_eq!(line_number(top, 7, bottom, 6, 3), 6);
+        assert_eq!(calls::line_number(top, 7, bottom, 7, 4), 3);
+        assert_eq!(calls::line_number(top, 7, bottom, 6, 3), 6);
         let mut short = [0; 2];
-        let number = woven_line(TOP[0], top, BOTTOM[0], bottom, 0, &mut short);
+        let number = calls::woven_line(TOP[0], top, BOTTOM[0], bottom, 0, &mut short);
         assert_eq!((number, short), (7, [0; 2]));
     }
 
@@ -542,7 +211,7 @@ mod tests {
             woven: 1,
             ..field
         };
-        assert_eq!(woven(field), frame);
+        assert_eq!(calls::woven(field), frame);
     }
 
     #[test]
@@ -559,8 +228,8 @@ mod tests {
         let (mut y, mut cb, mut cr) = ([0; 2], [0; 2], [0; 2]);
         let shared: &[u8] = &[0x40, 0x00, 0x80, 0x00];
         let mut read = |about, shared| {
-            let planes = [&[0xC0, 0xFF, 7][..], shared, &[]];
-            let number = readback(about, planes, [&mut y, &mut cb, &mut cr]);
+            let luma = &[0xC0, 0xFF, 7];
+            let number = calls::readback(about, luma, shared, &[], &mut y, &mut cb, &mut cr);
             (number, [y, cb, cr])
         };
         let done = [[0xFF, 3], [1, 0], [2, 0]];

@@ -8,11 +8,11 @@ use Rattle.replay.proofs.run.Statement.{statement}
 use Rattle.replay.proofs.run.Tie as tie
 
 abbrev Inv-loop : tie.InvT-loop
-Inv-loop buffer₀ held₀ detector₀ frame₀ weaver₀ field₀ compared₀ differ₀ nth₀ buffer held detector frame weaver field compared differ nth =
-    (65536 ≡ length buffer) × (213 ≡ length detector) × (8192 ≡ length frame) × (64 ≡ length weaver) × (8192 ≡ length field) × (28 ≡ length compared) × (28 ≡ length differ)
+Inv-loop buffer₀ held₀ state₀ store₀ compared₀ differ₀ nth₀ buffer held state store compared differ nth =
+    (65536 ≡ length buffer) × (256 ≡ length state) × (8192 ≡ length store) × (256 ≡ length compared) × (256 ≡ length differ)
 
 abbrev μ-loop : tie.MeasureT-loop
-μ-loop buffer₀ held₀ detector₀ frame₀ weaver₀ field₀ compared₀ differ₀ nth₀ buffer held detector frame weaver field compared differ nth =
+μ-loop buffer₀ held₀ state₀ store₀ compared₀ differ₀ nth₀ buffer held state store compared differ nth =
     18446744073709551615 - nth
 
 nothing-requires : tie.Need-nothing-requires Inv-loop μ-loop
@@ -41,12 +41,6 @@ slice-aggregate-once-4 c = search needs
 
 slice-aggregate-once-5 : tie.Need-slice-aggregate-once-5 Inv-loop μ-loop
 slice-aggregate-once-5 c = search needs
-
-slice-aggregate-once-6 : tie.Need-slice-aggregate-once-6 Inv-loop μ-loop
-slice-aggregate-once-6 c = search needs
-
-slice-aggregate-once-7 : tie.Need-slice-aggregate-once-7 Inv-loop μ-loop
-slice-aggregate-once-7 c = search needs
 
 once-requires : tie.Need-once-requires Inv-loop μ-loop
 once-requires c κs = search needs
@@ -96,8 +90,6 @@ run-spec =
     slice-aggregate-once-3
     slice-aggregate-once-4
     slice-aggregate-once-5
-    slice-aggregate-once-6
-    slice-aggregate-once-7
     once-requires
     slice-aggregate-tell-all
     slice-aggregate-tell-all-2

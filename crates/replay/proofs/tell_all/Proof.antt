@@ -6,10 +6,10 @@ use Rattle.replay.proofs.tell_all.Statement.{statement}
 use Rattle.replay.proofs.tell_all.Tie as tie
 
 abbrev Inv-loop : tie.InvT-loop
-Inv-loop compared differ all₀ apart₀ call₀ t6 all apart call = call ≤ 28
+Inv-loop compared differ all₀ apart₀ call₀ t6 all apart call = call ≤ 256
 
 abbrev μ-loop : tie.MeasureT-loop
-μ-loop compared differ all₀ apart₀ call₀ t6 all apart call = 28 - call
+μ-loop compared differ all₀ apart₀ call₀ t6 all apart call = 256 - call
 
 loop-holds : tie.Need-loop-holds Inv-loop μ-loop
 loop-holds c = search needs

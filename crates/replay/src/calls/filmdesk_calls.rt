@@ -1,13 +1,9 @@
-// The calls on busy blocks, cadences and the detector. A detector's state and the frame it keeps live
-// from record to record in the program's own arrays. How the state's bytes stand for a detector is the
-// desk's own affair, so they are not compared; the kept frame is. A record has in front how many bytes of
-// the state are lent. Assumes nothing.
+// Made by tools/calls from the exports; not to be changed by hand.
+// The calls of crate `filmdesk` made again, each from a record of the list. Assumes nothing.
 use answers::lent;
-use filmdesk::GridNumbers;
 
-// The four numbers of a picture's shape from number k on.
-fn grid(answer: &[u8], k: u8) -> GridNumbers {
-    GridNumbers {
+fn grid_numbers(answer: &[u8], k: u8) -> filmdesk::GridNumbers {
+    filmdesk::GridNumbers {
         width: answers::word(answer, k),
         height: answers::word(answer, std::num::wrapping_add_u8(k, 1)),
         depth: answers::word(answer, std::num::wrapping_add_u8(k, 2)),
@@ -16,74 +12,77 @@ fn grid(answer: &[u8], k: u8) -> GridNumbers {
 }
 
 fn busy(answer: &[u8]) -> bool {
-    let mut count = lent::NUMBER;
+    let mut busy = lent::NUMBER;
     let mut total = lent::NUMBER;
-    let no = filmdesk::desk_busy(
+    let found = filmdesk::desk_busy(
         answers::bytes(answer, 8, 0),
-        grid(answer, 0),
+        grid_numbers(answer, 0),
         answers::bytes(answer, 8, 1),
         answers::byte(answer, 4),
-        &mut count,
+        &mut busy,
         &mut total,
     );
     answers::whole(answer, 8, 2)
-        & answers::same_byte(answer, 5, no)
-        & answers::same(answer, 6, count)
+        & answers::same_byte(answer, 5, found)
+        & answers::same(answer, 6, busy)
         & answers::same(answer, 7, total)
 }
 
 fn cadences_to(answer: &[u8], out: &mut [u8]) -> bool {
-    let no = filmdesk::desk_cadences(answers::bytes(answer, 1, 0), out);
+    let found = filmdesk::desk_cadences(answers::bytes(answer, 1, 0), out);
     answers::whole(answer, 1, 2)
-        & answers::same_byte(answer, 0, no)
+        & answers::same_byte(answer, 0, found)
         & check::same(out, answers::bytes(answer, 1, 1))
 }
 
 fn cadences(answer: &[u8]) -> bool {
-    let mut out = [lent::BYTE; 1024];
-    let n = answers::room(answers::bytes(answer, 1, 1), 1024);
-    cadences_to(answer, &mut out[0..n])
+    let mut out = [lent::BYTE; 4096];
+    let out_room = answers::room(answers::bytes(answer, 1, 1), 4096);
+    let gave = cadences_to(answer, &mut out[0..out_room]);
+    gave
 }
 
 fn detector_new(answer: &[u8], state: &mut [u8]) -> bool {
     let asked = answers::number(answer, 0);
     let n = lent::part(asked, state.len());
     let there = asked <= state.len() as u64;
-    let no = filmdesk::desk_detector_new(&mut state[0..n]);
-    answers::whole(answer, 2, 0) & there & answers::same_byte(answer, 1, no)
+    let found = filmdesk::desk_detector_new(&mut state[0..n]);
+    answers::whole(answer, 2, 0) & there & answers::same_byte(answer, 1, found)
 }
 
 fn detector_reset(answer: &[u8], state: &mut [u8]) -> bool {
     let asked = answers::number(answer, 0);
     let n = lent::part(asked, state.len());
     let there = asked <= state.len() as u64;
-    let no = filmdesk::desk_detector_reset(&mut state[0..n]);
-    answers::whole(answer, 2, 0) & there & answers::same_byte(answer, 1, no)
+    let found = filmdesk::desk_detector_reset(&mut state[0..n]);
+    answers::whole(answer, 2, 0) & there & answers::same_byte(answer, 1, found)
 }
 
 fn detector_locked(answer: &[u8], state: &[u8]) -> bool {
     let asked = answers::number(answer, 0);
     let n = lent::part(asked, state.len());
+    let there = asked <= state.len() as u64;
     let mut locked = lent::BYTE;
-    let no = filmdesk::desk_detector_locked(&state[0..n], &mut locked);
+    let found = filmdesk::desk_detector_locked(&state[0..n], &mut locked);
     answers::whole(answer, 3, 0)
-        & (asked <= state.len() as u64)
-        & answers::same_byte(answer, 1, no)
+        & there
+        & answers::same_byte(answer, 1, found)
         & answers::same_byte(answer, 2, locked)
 }
 
 fn detector_predict(answer: &[u8], state: &[u8]) -> bool {
     let asked = answers::number(answer, 0);
     let n = lent::part(asked, state.len());
+    let there = asked <= state.len() as u64;
     let mut cadence = lent::BYTE;
-    let no = filmdesk::desk_detector_predict(
+    let found = filmdesk::desk_detector_predict(
         &state[0..n],
         answers::number(answer, 1),
         &mut cadence,
     );
     answers::whole(answer, 4, 0)
-        & (asked <= state.len() as u64)
-        & answers::same_byte(answer, 2, no)
+        & there
+        & answers::same_byte(answer, 2, found)
         & answers::same_byte(answer, 3, cadence)
 }
 
@@ -92,7 +91,7 @@ fn detector_push_measured(answer: &[u8], state: &mut [u8]) -> bool {
     let n = lent::part(asked, state.len());
     let there = asked <= state.len() as u64;
     let mut cadence = lent::BYTE;
-    let no = filmdesk::desk_detector_push_measured(
+    let found = filmdesk::desk_detector_push_measured(
         &mut state[0..n],
         answers::byte(answer, 1),
         answers::byte(answer, 2),
@@ -104,23 +103,22 @@ fn detector_push_measured(answer: &[u8], state: &mut [u8]) -> bool {
     );
     answers::whole(answer, 9, 0)
         & there
-        & answers::same_byte(answer, 7, no)
+        & answers::same_byte(answer, 7, found)
         & answers::same_byte(answer, 8, cadence)
 }
 
-// The second slice is what the store holds afterwards.
-fn push_to(answer: &[u8], state: &mut [u8], store: &mut [u8]) -> bool {
+fn detector_push_to(answer: &[u8], state: &mut [u8], store: &mut [u8]) -> bool {
     let mut cadence = lent::BYTE;
-    let no = filmdesk::desk_detector_push(
+    let found = filmdesk::desk_detector_push(
         state,
         answers::byte(answer, 1),
         answers::bytes(answer, 8, 0),
-        grid(answer, 2),
+        grid_numbers(answer, 2),
         store,
         &mut cadence,
     );
     answers::whole(answer, 8, 2)
-        & answers::same_byte(answer, 6, no)
+        & answers::same_byte(answer, 6, found)
         & answers::same_byte(answer, 7, cadence)
         & check::same(store, answers::bytes(answer, 8, 1))
 }
@@ -129,19 +127,21 @@ fn detector_push(answer: &[u8], state: &mut [u8], store: &mut [u8]) -> bool {
     let asked = answers::number(answer, 0);
     let n = lent::part(asked, state.len());
     let there = asked <= state.len() as u64;
-    let m = answers::room(answers::bytes(answer, 8, 1), store.len());
-    push_to(answer, &mut state[0..n], &mut store[0..m]) & there
+    let store_room = answers::room(answers::bytes(answer, 8, 1), store.len());
+    let gave = detector_push_to(answer, &mut state[0..n], &mut store[0..store_room]);
+    there & gave
 }
 
+// Calls 11 to 18; any other counts as the last of these.
 pub(crate) fn replayed(call: usize, answer: &[u8], state: &mut [u8], store: &mut [u8]) -> bool {
     match call {
-        12 => busy(answer),
-        13 => cadences(answer),
-        14 => detector_new(answer, state),
-        15 => detector_reset(answer, state),
-        16 => detector_locked(answer, state),
-        17 => detector_predict(answer, state),
-        18 => detector_push_measured(answer, state),
+        11 => busy(answer),
+        12 => cadences(answer),
+        13 => detector_new(answer, state),
+        14 => detector_reset(answer, state),
+        15 => detector_locked(answer, state),
+        16 => detector_predict(answer, state),
+        17 => detector_push_measured(answer, state),
         _ => detector_push(answer, state, store),
     }
 }
