@@ -5,7 +5,8 @@
 use std::hint::black_box;
 use std::rc::Rc;
 
-use desk::{GridNumbers, PlaneNumbers, STATE_BYTES};
+use desk::STATE_BYTES;
+use desk::calls::{GridNumbers, PlaneNumbers};
 use differ::random::Random;
 use differ::runs::cadences::{self, Entry};
 use oracle::mediadecoder::es::Format;
@@ -18,7 +19,7 @@ use super::{Contest, Side, Sides, Size, again, plane_of, side, taken};
 
 fn fresh_state() -> [u8; STATE_BYTES] {
     let mut state = [0; STATE_BYTES];
-    taken(desk::detector_new(&mut state));
+    taken(desk::calls::detector_new(&mut state));
     state
 }
 
@@ -70,7 +71,7 @@ pub fn busy(size: Size, depth: u32) -> Contest {
                 let (plane, store) = (black_box(&plane.data[..]), black_box(&store[..]));
                 for parity in 0..2 {
                     let (mut busy, mut total) = (0, 0);
-                    taken(desk::busy(
+                    taken(desk::calls::busy(
                         plane, grid, store, parity, &mut busy, &mut total,
                     ));
                     black_box((busy, total));
@@ -98,7 +99,7 @@ pub fn push(size: Size, depth: u32) -> Contest {
                 let mut cadence = 0;
                 for (plane, _) in &two {
                     let plane = black_box(&plane.data[..]);
-                    taken(desk::detector_push(
+                    taken(desk::calls::detector_push(
                         &mut state,
                         0,
                         plane,
@@ -150,7 +151,7 @@ pub fn cadences(entries: u64, reads: bool) -> Contest {
         let read = bytes.clone();
         Sides {
             rattle: side(move || {
-                taken(desk::cadences(black_box(&bytes), &mut out));
+                taken(desk::calls::cadences(black_box(&bytes), &mut out));
                 black_box(&mut out);
             }),
             rust: Some(if reads {
@@ -200,7 +201,7 @@ fn measured(entry: &Entry) -> Measured {
 fn push_entry(state: &mut [u8], entry: &Entry) -> u8 {
     let [busy, total, other_busy, other_total] = entry.numbers.map(u64::from);
     let mut cadence = 0;
-    taken(desk::detector_push_measured(
+    taken(desk::calls::detector_push_measured(
         state,
         0,
         1,
@@ -265,7 +266,7 @@ pub fn fresh(calls: u64) -> Contest {
         let mut state = [0; STATE_BYTES];
         Sides {
             rattle: again(calls, move || {
-                taken(desk::detector_new(black_box(&mut state)));
+                taken(desk::calls::detector_new(black_box(&mut state)));
             }),
             rust: Some(again(calls, || {
                 black_box(&mut called::new());
@@ -285,7 +286,7 @@ pub fn reset(calls: u64) -> Contest {
         let (_, mut inlined) = after(20);
         Sides {
             rattle: again(calls, move || {
-                taken(desk::detector_reset(black_box(&mut state)));
+                taken(desk::calls::detector_reset(black_box(&mut state)));
             }),
             rust: Some(again(calls, move || {
                 called::reset(black_box(&mut detector));
@@ -303,7 +304,7 @@ pub fn locked(frames: u64, calls: u64) -> Contest {
         Sides {
             rattle: again(calls, move || {
                 let mut locked = 0;
-                taken(desk::detector_locked(black_box(&state), &mut locked));
+                taken(desk::calls::detector_locked(black_box(&state), &mut locked));
                 black_box(locked);
             }),
             rust: Some(again(calls, move || {
@@ -326,7 +327,7 @@ pub fn predict(ahead: u64, calls: u64) -> Contest {
         Sides {
             rattle: again(calls, move || {
                 let mut cadence = 0;
-                taken(desk::detector_predict(
+                taken(desk::calls::detector_predict(
                     black_box(&state),
                     black_box(ahead),
                     &mut cadence,

@@ -12,7 +12,7 @@ use std::env;
 use std::fmt;
 use std::time::{Duration, Instant};
 
-use desk::PlaneNumbers;
+use desk::calls::PlaneNumbers;
 use differ::random::Random;
 use oracle::mediadecoder::video::Plane;
 
@@ -508,29 +508,21 @@ fn is_qemu() -> bool {
 #[cfg(test)]
 mod tests {
     use std::collections::BTreeMap;
-    use std::fs;
-    use std::path::Path;
+
+    use desk::calls::CALLS;
 
     use super::{Contest, contests, growth};
 
-    /// The exports, as host/desk declares them.
-    fn exports() -> Vec<String> {
-        let folder = Path::new(env!("CARGO_MANIFEST_DIR")).join("../desk/src");
-        let mut found = Vec::new();
-        for file in fs::read_dir(folder).expect("host/desk has a src") {
-            let path = file.expect("a file of host/desk").path();
-            let text = fs::read_to_string(path).expect("a source of host/desk");
-            let names = text.split("fn desk_").skip(1);
-            found.extend(names.filter_map(|rest| Some(rest.split_once('(')?.0.to_owned())));
-        }
+    fn exports() -> Vec<&'static str> {
+        let mut found: Vec<_> = CALLS.iter().map(|call| call.name).collect();
         found.sort();
         found
     }
 
-    fn timed(contests: Vec<Contest>) -> BTreeMap<String, usize> {
+    fn timed(contests: Vec<Contest>) -> BTreeMap<&'static str, usize> {
         let mut found = BTreeMap::new();
         for contest in contests {
-            *found.entry(contest.call.to_owned()).or_default() += 1;
+            *found.entry(contest.call).or_default() += 1;
         }
         found
     }
@@ -538,7 +530,6 @@ mod tests {
     #[test]
     fn every_export_is_timed_and_at_four_sizes() {
         let exports = exports();
-        assert_eq!(exports.len(), 28);
         let once = timed(contests());
         assert!(once.keys().eq(&exports), "{once:?}");
         let grown = timed(growth());

@@ -4,7 +4,7 @@
 use std::hint::black_box;
 use std::rc::Rc;
 
-use desk::{Conversion, FrameNumbers, OutputNumbers, PlaneNumbers};
+use desk::calls::{Conversion, FrameNumbers, OutputNumbers, PlaneNumbers};
 use differ::runs::picture::{by_rust, output_named};
 use oracle::mediadecoder::video::Plane;
 use oracle::video::filter::{Planes, Samples};
@@ -118,7 +118,7 @@ fn sides(size: Size, quality: u8, settings: Settings, depth: u32, biplanar: bool
             let [previous_luma, previous_cb, previous_cr] = previous.lent();
             let [current_luma, current_cb, current_cr] = current.lent();
             let [following_luma, following_cb, following_cr] = following.lent();
-            taken(desk::picture(
+            taken(desk::calls::picture(
                 quality,
                 output,
                 conversion,

@@ -22,7 +22,7 @@ pub fn comb(size: Size, depth: u32) -> Contest {
                 let lent = black_box(&lent.data[..]);
                 let mut total = 0;
                 let Size { width, height } = size;
-                taken(desk::comb(
+                taken(desk::calls::comb(
                     lent,
                     width,
                     height,
@@ -49,7 +49,12 @@ pub fn comb_rgba(size: Size) -> Contest {
         Sides {
             rattle: side(move || {
                 let mut total = 0;
-                taken(desk::comb_rgba(black_box(&lent), width, height, &mut total));
+                taken(desk::calls::comb_rgba(
+                    black_box(&lent),
+                    width,
+                    height,
+                    &mut total,
+                ));
                 black_box(total);
             }),
             rust: Some(side(move || {
@@ -90,7 +95,7 @@ pub fn whole(size: Size, quality: u8, of: (u32, u32)) -> Contest {
         Sides {
             rattle: side(move || {
                 let [before, cur, after] = lent.each_ref().map(|plane| black_box(&plane.data[..]));
-                taken(desk::plane(
+                taken(desk::calls::plane(
                     quality, 0, before, shape, cur, shape, after, shape, &mut out,
                 ));
                 black_box(&mut out);

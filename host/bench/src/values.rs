@@ -6,7 +6,7 @@
 use std::hint::black_box;
 use std::rc::Rc;
 
-use desk::{FormatNumbers, PlaneNumbers};
+use desk::calls::{FormatNumbers, PlaneNumbers};
 use differ::random::Random;
 use mediadecoder::es::{Format, Structure};
 use mediadecoder::video::Plane;
@@ -49,7 +49,11 @@ pub fn first_field(calls: u64) -> Contest {
         Sides {
             rattle: every(&pairs, |(structure, top_field_first)| {
                 let mut parity = 0;
-                taken(desk::first_field(*structure, *top_field_first, &mut parity));
+                taken(desk::calls::first_field(
+                    *structure,
+                    *top_field_first,
+                    &mut parity,
+                ));
                 black_box(parity);
             }),
             rust: Some(every(&pairs, |(structure, top_field_first)| {
@@ -143,7 +147,7 @@ pub fn code(size: Size, reads: u64, of: (u32, u32)) -> Contest {
     read(
         "code",
         (size, reads, of),
-        desk::code,
+        desk::calls::code,
         |samples, x, y, value| called::code(samples, x, y, value),
         inlined,
     )
@@ -153,7 +157,7 @@ pub fn at(size: Size, reads: u64, of: (u32, u32)) -> Contest {
     read(
         "at",
         (size, reads, of),
-        desk::at,
+        desk::calls::at,
         |samples, x, y, value| called::at(samples, x, y, value),
         |samples, x, y| samples.at(x, y),
     )
@@ -163,7 +167,7 @@ pub fn edge(size: Size, reads: u64, of: (u32, u32)) -> Contest {
     read(
         "edge",
         (size, reads, of),
-        desk::edge,
+        desk::calls::edge,
         |samples, x, y, slant| called::edge(samples, x, y, slant),
         filter::edge,
     )
@@ -187,7 +191,7 @@ pub fn sample(size: Size, reads: u64, of: (u32, u32)) -> Contest {
                     planes.each_ref().map(|plane| black_box(&plane.data[..]));
                 for (x, y) in black_box(&places[..]) {
                     let mut value = 0.0;
-                    taken(desk::sample(
+                    taken(desk::calls::sample(
                         2, before, shape, cur, shape, after, shape, 0, 2, *x, *y, &mut value,
                     ));
                     black_box(value);
@@ -218,7 +222,7 @@ pub fn sample(size: Size, reads: u64, of: (u32, u32)) -> Contest {
 pub fn to_rgb(calls: u64) -> Contest {
     contest("to_rgb", calls, "triples", move || {
         let made = Conversion::new(colour::Matrix::Bt709, 10, true);
-        let conversion = desk::Conversion {
+        let conversion = desk::calls::Conversion {
             luma_offset: made.luma_offset,
             luma_gain: made.luma_gain,
             chroma_offset: made.chroma_offset,
@@ -238,7 +242,7 @@ pub fn to_rgb(calls: u64) -> Contest {
                 let (mut red, mut green, mut blue) = (0.0, 0.0, 0.0);
                 let conversion = black_box(conversion);
                 let places = (&mut red, &mut green, &mut blue);
-                taken(desk::to_rgb(
+                taken(desk::calls::to_rgb(
                     conversion, *y, *cb, *cr, places.0, places.1, places.2,
                 ));
                 black_box([red, green, blue]);
@@ -267,7 +271,7 @@ pub fn quantise(calls: u64) -> Contest {
         let floats: Rc<[f32]> = floats.collect();
         Sides {
             rattle: every(&floats, |value| {
-                black_box(desk::quantise(*value));
+                black_box(desk::calls::quantise(*value));
             }),
             rust: Some(every(&floats, |value| {
                 black_box(called::quantise(*value));
@@ -290,7 +294,7 @@ pub fn luma(calls: u64) -> Contest {
         Sides {
             rattle: every(&codes, |code| {
                 let (mut red, mut green, mut blue) = (0.0, 0.0, 0.0);
-                taken(desk::luma(*code, &mut red, &mut green, &mut blue));
+                taken(desk::calls::luma(*code, &mut red, &mut green, &mut blue));
                 black_box([red, green, blue]);
             }),
             rust: Some(every(&codes, |code| {
@@ -331,7 +335,7 @@ pub fn woven(calls: u64) -> Contest {
         let formats: Rc<[Format]> = formats.collect();
         Sides {
             rattle: every(&numbers, |field| {
-                black_box(desk::woven(*field));
+                black_box(desk::calls::woven(*field));
             }),
             rust: Some(every(&formats, |field| {
                 black_box(called::woven(*field));
@@ -406,7 +410,7 @@ mod called {
 
     #[inline(never)]
     pub extern "C" fn to_rgb(
-        conversion: desk::Conversion,
+        conversion: desk::calls::Conversion,
         y: f32,
         cb: f32,
         cr: f32,

@@ -4,7 +4,8 @@
 use std::hint::black_box;
 use std::rc::Rc;
 
-use desk::{FieldNumbers, LinesNumbers, ReadbackNumbers, WEAVER_BYTES};
+use desk::WEAVER_BYTES;
+use desk::calls::{FieldNumbers, LinesNumbers, ReadbackNumbers};
 use differ::random::Random;
 use differ::runs;
 use oracle::decode::Readback;
@@ -83,8 +84,11 @@ pub fn weave(size: Size, depth: u32) -> Contest {
         Sides {
             rattle: side(move || {
                 let [top, bottom] = black_box(&*for_rattle).each_ref().map(lent);
-                let outs = outs.each_mut().map(Vec::as_mut_slice);
-                taken(desk::weave(shape, top, shape, bottom, outs));
+                let ([top_luma, top_cb, top_cr], [luma, cb, cr]) = (top, bottom);
+                let [out_luma, out_cb, out_cr] = &mut outs;
+                taken(desk::calls::weave(
+                    shape, top_luma, top_cb, top_cr, shape, luma, cb, cr, out_luma, out_cb, out_cr,
+                ));
             }),
             rust: Some(side(move || {
                 let [top, bottom] = black_box(&*fields);
@@ -106,7 +110,7 @@ pub fn line_number(size: Size, calls: u64) -> Contest {
             rattle: side(move || {
                 for y in (0..2 * lines.height).cycle().take(calls as usize) {
                     let lines = black_box(lines);
-                    let number = desk::line_number(lines, bytes, lines, bytes, black_box(y));
+                    let number = desk::calls::line_number(lines, bytes, lines, bytes, black_box(y));
                     taken(number);
                 }
             }),
@@ -146,7 +150,7 @@ pub fn woven_line(size: Size, depth: u32) -> Contest {
                     .each_ref()
                     .map(|field| &field.planes[0].data[..]);
                 for (y, line) in (0..).zip(out.chunks_exact_mut(row)) {
-                    taken(desk::woven_line(top, lines, bottom, lines, y, line));
+                    taken(desk::calls::woven_line(top, lines, bottom, lines, y, line));
                 }
                 black_box(&mut out);
             }),
@@ -208,8 +212,10 @@ fn readback_sides(size: Size, depth: u32, planes: u32) -> Sides {
             for (plane, (bytes, _, _)) in planes.iter_mut().zip(&black_box(&*for_rattle).planes) {
                 *plane = bytes;
             }
-            let outs = outs.each_mut().map(Vec::as_mut_slice);
-            taken(desk::readback(about, planes, outs));
+            let ([luma, second, third], [out_luma, out_cb, out_cr]) = (planes, &mut outs);
+            taken(desk::calls::readback(
+                about, luma, second, third, out_luma, out_cb, out_cr,
+            ));
         }),
         rust: Some(side(move || {
             let frame = runs::readback::by_rust(black_box(&read));
@@ -225,7 +231,7 @@ pub fn weaver_new(calls: u64) -> Contest {
         let mut state = [0; WEAVER_BYTES];
         Sides {
             rattle: again(calls, move || {
-                taken(desk::weaver_new(black_box(&mut state)));
+                taken(desk::calls::weaver_new(black_box(&mut state)));
             }),
             rust: Some(again(calls, || {
                 black_box(&mut called::new());
@@ -242,11 +248,11 @@ pub fn weaver_clear(calls: u64) -> Contest {
     let input = format!("{calls} calls, no field");
     Contest::new("weaver_clear", input, (calls, "call"), move || {
         let mut state = [0; WEAVER_BYTES];
-        taken(desk::weaver_new(&mut state));
+        taken(desk::calls::weaver_new(&mut state));
         let [mut rust, mut inlined] = [0; 2].map(|_| called::new());
         Sides {
             rattle: again(calls, move || {
-                taken(desk::weaver_clear(black_box(&mut state)));
+                taken(desk::calls::weaver_clear(black_box(&mut state)));
             }),
             rust: Some(again(calls, move || called::clear(black_box(&mut rust)))),
             inlined: Some(again(calls, move || black_box(&mut inlined).clear())),
@@ -263,7 +269,7 @@ pub fn weaver_push(size: Size, depth: u32, copied: bool) -> Contest {
         let (shape, fields) = two_fields(size, depth);
         let mut outs = room(&fields[0]);
         let mut state = [0; WEAVER_BYTES];
-        taken(desk::weaver_new(&mut state));
+        taken(desk::calls::weaver_new(&mut state));
         let bytes: usize = lent(&fields[0]).iter().map(|plane| plane.len()).sum();
         let mut store = vec![0; bytes];
         let fields = Rc::new(fields);
@@ -273,15 +279,20 @@ pub fn weaver_push(size: Size, depth: u32, copied: bool) -> Contest {
             rattle: side(move || {
                 let (mut picture, mut timed, mut time) = (0, 0, 0);
                 for (parity, field) in (0..).zip(black_box(&*for_rattle)) {
-                    taken(desk::weaver_push(
+                    let ([luma, cb, cr], [out_luma, out_cb, out_cr]) = (lent(field), &mut outs);
+                    taken(desk::calls::weaver_push(
                         &mut state,
                         parity,
                         1,
                         7,
                         shape,
-                        lent(field),
+                        luma,
+                        cb,
+                        cr,
                         &mut store,
-                        outs.each_mut().map(Vec::as_mut_slice),
+                        out_luma,
+                        out_cb,
+                        out_cr,
                         &mut picture,
                         &mut timed,
                         &mut time,

@@ -15,100 +15,36 @@
 use std::collections::BTreeMap;
 use std::fmt;
 
-use crate::random::{Random, SEED};
-use crate::runs;
+use desk::calls::CALLS;
 
-/// The calls in the order of their numbers.
-#[derive(Debug, Clone, Copy, PartialEq, Eq, PartialOrd, Ord)]
-pub enum Call {
-    FirstField,
-    Code,
-    At,
-    Comb,
-    CombRgba,
-    Edge,
-    Sample,
-    Plane,
-    ToRgb,
-    Quantise,
-    Luma,
-    Picture,
-    Busy,
-    Cadences,
-    DetectorNew,
-    DetectorReset,
-    DetectorLocked,
-    DetectorPredict,
-    DetectorPushMeasured,
-    DetectorPush,
-    Weave,
-    LineNumber,
-    WovenLine,
-    Woven,
-    Readback,
-    WeaverNew,
-    WeaverClear,
-    WeaverPush,
+use crate::random::{Random, SEED};
+use crate::runs::RUNS;
+
+/// A call's number: its place in the table of calls.
+pub fn number_of(call: &str) -> usize {
+    let place = CALLS.iter().position(|known| known.name == call);
+    place.unwrap_or_else(|| panic!("`{call}` is no exported call"))
 }
 
-/// Each call by its name at the desk, without `desk_`; how many answers that get
-/// 0 the list has at least; and the numbers that the call gives otherwise.
-/// Number 9 needs four billion frames.
-pub const CALLS: [(Call, &str, usize, &[u8]); 28] = [
-    (Call::FirstField, "first_field", 6, &[3]),
-    (Call::Code, "code", 100, &[3, 4, 6]),
-    (Call::At, "at", 100, &[3, 4, 6]),
-    (Call::Comb, "comb", 80, &[4, 6]),
-    (Call::CombRgba, "comb_rgba", 80, &[4, 6]),
-    (Call::Edge, "edge", 120, &[3, 4, 6]),
-    (Call::Sample, "sample", 160, &[3, 4, 5, 6]),
-    (Call::Plane, "plane", 60, &[3, 4, 5, 6, 7]),
-    (Call::ToRgb, "to_rgb", 200, &[8]),
-    (Call::Quantise, "quantise", 200, &[]),
-    (Call::Luma, "luma", 2, &[3]),
-    (Call::Picture, "picture", 60, &[3, 4, 5, 6, 7, 8]),
-    (Call::Busy, "busy", 60, &[3, 4, 6]),
-    (Call::Cadences, "cadences", 40, &[3, 6, 7]),
-    (Call::DetectorNew, "detector_new", 30, &[7]),
-    (Call::DetectorReset, "detector_reset", 30, &[6]),
-    (Call::DetectorLocked, "detector_locked", 100, &[6]),
-    (Call::DetectorPredict, "detector_predict", 100, &[6, 10]),
-    (
-        Call::DetectorPushMeasured,
-        "detector_push_measured",
-        400,
-        &[3, 6],
-    ),
-    (Call::DetectorPush, "detector_push", 250, &[3, 4, 6, 7]),
-    (Call::Weave, "weave", 50, &[4, 5, 6, 7]),
-    (Call::LineNumber, "line_number", 50, &[3, 4, 5, 6]),
-    (Call::WovenLine, "woven_line", 50, &[3, 4, 5, 6, 7]),
-    (Call::Woven, "woven", 100, &[]),
-    (Call::Readback, "readback", 50, &[1, 2, 4, 6, 7]),
-    (Call::WeaverNew, "weaver_new", 30, &[7]),
-    (Call::WeaverClear, "weaver_clear", 30, &[6]),
-    (Call::WeaverPush, "weaver_push", 200, &[3, 4, 5, 6, 7]),
-];
-
-impl Call {
-    pub fn name(self) -> &'static str {
-        CALLS[self as usize].1
-    }
+/// The numbers with which a call refuses an input that a list can hold: 9 needs
+/// four billion frames.
+pub fn refusals(call: &str) -> impl Iterator<Item = u8> {
+    let refusals = CALLS[number_of(call)].refusals;
+    refusals.iter().copied().filter(|number| *number != 9)
 }
 
 /// What `replay` fills every lent byte with before a call.
 pub const FILL: u8 = 0xA5;
 
-/// Bytes of the arrays in which `replay` keeps a detector and a weaver, and
-/// those of the frame and of the field that they keep.
-pub const DETECTOR_ROOM: usize = 213;
-pub const WEAVER_ROOM: usize = 64;
+/// Bytes of the arrays in which `replay` keeps a state and a store from record to
+/// record: one of each, whatever call they are lent to.
+pub const STATE_ROOM: usize = 256;
 pub const STORE_ROOM: usize = 8192;
 
 /// A call, and what is expected of it.
 #[derive(Debug, Clone, PartialEq, Eq)]
 pub struct Answer {
-    pub call: Call,
+    pub call: &'static str,
     /// What the call gives; 0 for one that always answers.
     pub gives: u8,
     numbers: Vec<u64>,
@@ -116,7 +52,7 @@ pub struct Answer {
 }
 
 impl Answer {
-    pub fn of(call: Call) -> Self {
+    pub fn of(call: &'static str) -> Self {
         Self {
             call,
             gives: 0,
@@ -208,7 +144,7 @@ impl Answer {
         let all = front + self.slices.iter().map(Vec::len).sum::<usize>();
         let head = [
             all,
-            self.call as usize,
+            number_of(self.call),
             self.numbers.len(),
             self.slices.len(),
         ];
@@ -241,14 +177,18 @@ const MOST_TRIES: usize = 100_000;
 /// Answers that are refused with each number that a call can give.
 const REFUSED: usize = 6;
 
-/// So many answers of a call that get 0, and some of every other number.
-fn picked(call: Call, mut answers: impl Iterator<Item = Answer>) -> Vec<Answer> {
-    let (_, name, least, numbers) = CALLS[call as usize];
+/// So many answers of a call that get 0, and some of every other number. Fewer
+/// that get 0 where there are no more.
+pub fn picked(
+    call: &'static str,
+    least: usize,
+    mut answers: impl Iterator<Item = Answer>,
+) -> Vec<Answer> {
     let mut found = Vec::new();
     let mut gave: BTreeMap<u8, usize> = BTreeMap::new();
     for _ in 0..MOST_TRIES {
         let full = |number: u8, enough: usize| gave.get(&number).copied().unwrap_or(0) >= enough;
-        if full(0, least) && numbers.iter().all(|number| full(*number, REFUSED)) {
+        if full(0, least) && refusals(call).all(|number| full(number, REFUSED)) {
             break;
         }
         let Some(answer) = answers.next() else { break };
@@ -260,65 +200,17 @@ fn picked(call: Call, mut answers: impl Iterator<Item = Answer>) -> Vec<Answer> 
         *gave.entry(answer.gives).or_default() += 1;
         found.push(answer);
     }
-    let lacks = |number: &u8| !gave.contains_key(number);
-    let missing: Vec<_> = numbers.iter().filter(|number| lacks(number)).collect();
-    assert!(missing.is_empty(), "no {name} is refused with {missing:?}");
     found
 }
 
-/// The whole list, the same each time.
+/// The whole list, the same each time. Every run gives its part; the store is
+/// handed on from one to the next, as `replay` does.
 pub fn list() -> Vec<Answer> {
-    let random = |call: Call| Random::for_run(SEED, call.name());
+    let mut store = vec![FILL; STORE_ROOM];
     let mut all = Vec::new();
-    let mut add = |call, answers: &mut dyn Iterator<Item = Answer>| {
-        all.extend(picked(call, answers));
-    };
-    add(Call::FirstField, &mut runs::first_field::answers());
-    add(Call::Code, &mut runs::code::answers(random(Call::Code)));
-    add(Call::At, &mut runs::at::answers(random(Call::At)));
-    add(Call::Comb, &mut runs::comb::answers(random(Call::Comb)));
-    add(
-        Call::CombRgba,
-        &mut runs::comb_rgba::answers(random(Call::CombRgba)),
-    );
-    add(Call::Edge, &mut runs::edge::answers(random(Call::Edge)));
-    add(
-        Call::Sample,
-        &mut runs::sample::answers(random(Call::Sample)),
-    );
-    add(Call::Plane, &mut runs::plane::answers(random(Call::Plane)));
-    add(Call::ToRgb, &mut runs::to_rgb::answers(random(Call::ToRgb)));
-    add(
-        Call::Quantise,
-        &mut runs::quantise::answers(random(Call::Quantise)),
-    );
-    add(Call::Luma, &mut runs::luma::answers());
-    add(
-        Call::Picture,
-        &mut runs::picture::answers(random(Call::Picture)),
-    );
-    add(Call::Busy, &mut runs::busy::answers(random(Call::Busy)));
-    add(
-        Call::Cadences,
-        &mut runs::cadences::answers(random(Call::Cadences)),
-    );
-    add(Call::Weave, &mut runs::weave::answers(random(Call::Weave)));
-    add(
-        Call::LineNumber,
-        &mut runs::woven_line::numbers(random(Call::LineNumber)),
-    );
-    add(
-        Call::WovenLine,
-        &mut runs::woven_line::answers(random(Call::WovenLine)),
-    );
-    add(Call::Woven, &mut runs::woven::answers(random(Call::Woven)));
-    add(
-        Call::Readback,
-        &mut runs::readback::answers(random(Call::Readback)),
-    );
-    // What comes next depends on what came before: these are taken whole.
-    all.extend(runs::detector::answers(random(Call::DetectorPush)));
-    all.extend(runs::weaver::answers(random(Call::WeaverPush)));
+    for run in RUNS {
+        all.extend((run.answers)(Random::for_run(SEED, run.name), &mut store));
+    }
     all
 }
 
@@ -329,11 +221,11 @@ pub fn bytes(list: &[Answer]) -> Vec<u8> {
 
 /// How many answers of each call the list has, and how many get 0.
 #[derive(Debug, Clone, PartialEq, Eq)]
-pub struct Counts(BTreeMap<Call, BTreeMap<u8, usize>>);
+pub struct Counts(BTreeMap<&'static str, BTreeMap<u8, usize>>);
 
 impl Counts {
     pub fn of(list: &[Answer]) -> Self {
-        let mut counts: BTreeMap<Call, BTreeMap<u8, usize>> = BTreeMap::new();
+        let mut counts: BTreeMap<&str, BTreeMap<u8, usize>> = BTreeMap::new();
         for answer in list {
             let gave = counts.entry(answer.call).or_default();
             *gave.entry(answer.gives).or_default() += 1;
@@ -342,14 +234,14 @@ impl Counts {
     }
 
     /// Answers of a call that are given this number.
-    pub fn gave(&self, call: Call, number: u8) -> usize {
-        let gave = self.0.get(&call).and_then(|gave| gave.get(&number));
+    pub fn gave(&self, call: &str, number: u8) -> usize {
+        let gave = self.0.get(call).and_then(|gave| gave.get(&number));
         gave.copied().unwrap_or(0)
     }
 
     /// All answers of a call.
-    pub fn of_call(&self, call: Call) -> usize {
-        self.0.get(&call).map_or(0, |gave| gave.values().sum())
+    pub fn of_call(&self, call: &str) -> usize {
+        self.0.get(call).map_or(0, |gave| gave.values().sum())
     }
 
     pub fn all(&self) -> usize {
@@ -357,21 +249,22 @@ impl Counts {
     }
 
     pub fn accepted(&self) -> usize {
-        CALLS.iter().map(|(call, ..)| self.gave(*call, 0)).sum()
+        CALLS.iter().map(|call| self.gave(call.name, 0)).sum()
     }
 }
 
 impl fmt::Display for Counts {
     fn fmt(&self, f: &mut fmt::Formatter<'_>) -> fmt::Result {
-        for (call, name, ..) in CALLS {
-            let gave = self.0.get(&call).cloned().unwrap_or_default();
-            let all = self.of_call(call);
+        for call in CALLS {
+            let name = call.name;
+            let gave = self.0.get(name).cloned().unwrap_or_default();
+            let all = self.of_call(name);
             let refused: Vec<_> = gave
                 .iter()
                 .filter(|(number, _)| **number != 0)
                 .map(|(number, count)| format!("{count} with {number}"))
                 .collect();
-            let accepted = self.gave(call, 0);
+            let accepted = self.gave(name, 0);
             write!(f, "{name}: {all}, {accepted} accepted")?;
             if !refused.is_empty() {
                 write!(f, " ({})", refused.join(", "))?;
@@ -391,7 +284,7 @@ pub fn check(list: &[Answer], file: &[u8]) -> Result<(), String> {
         match rest.strip_prefix(&*record) {
             Some(after) => rest = after,
             None => {
-                let (record, name) = (at + 1, answer.call.name());
+                let (record, name) = (at + 1, answer.call);
                 return Err(format!(
                     "record {record} is not the answer of {name} that the original gives; expected \
                      the file that `answers` writes"

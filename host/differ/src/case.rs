@@ -2,7 +2,7 @@
 //! that makes a failing case small, and the tally.
 
 use std::any::Any;
-use std::collections::BTreeMap;
+use std::collections::{BTreeMap, BTreeSet};
 use std::fmt;
 use std::panic::{self, AssertUnwindSafe};
 
@@ -170,6 +170,11 @@ pub enum Failure {
         tally: Tally,
         least: Least,
     },
+    /// The exports say that they refuse with other numbers.
+    OtherNumbers {
+        tally: Tally,
+        said: BTreeSet<u8>,
+    },
 }
 
 impl fmt::Display for Failure {
@@ -188,6 +193,11 @@ impl fmt::Display for Failure {
                 f,
                 "{tally}; but expected at least {} accepted and {} refused",
                 least.accepted, least.refused
+            ),
+            Self::OtherNumbers { tally, said } => write!(
+                f,
+                "{tally}; but by their exports the calls refuse with {said:?}; expected each of these \
+                 and no other"
             ),
         }
     }

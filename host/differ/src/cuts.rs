@@ -10,7 +10,8 @@ use std::collections::BTreeSet;
 use std::fmt::Debug;
 use std::ops::Range;
 
-use desk::{Cadence, GridNumbers};
+use desk::Cadence;
+use desk::calls::GridNumbers;
 use oracle::mediadecoder::video::Plane;
 use oracle::video::telecine::Detector;
 

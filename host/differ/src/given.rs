@@ -4,7 +4,7 @@
 use std::cell::OnceCell;
 use std::fmt;
 
-use desk::PlaneNumbers;
+use desk::calls::PlaneNumbers;
 use oracle::mediadecoder::video::Plane;
 
 use crate::case::smaller_numbers;

@@ -3,7 +3,7 @@
 //! docs/RULES.md is the judge here ("Planes", "What the desk gets back"), written
 //! out once more, apart from the proved code and its statements.
 
-use desk::{Conversion, PlaneNumbers};
+use desk::calls::{Conversion, PlaneNumbers};
 
 pub mod films;
 pub mod pictures;
@@ -188,7 +188,7 @@ pub fn comb_rgba(width: u32, height: u32, length: usize) -> u8 {
 #[cfg(test)]
 mod tests {
     use super::{at, code, comb, comb_rgba, edge, needed, plane, sample, to_rgb};
-    use desk::{Conversion, PlaneNumbers};
+    use desk::calls::{Conversion, PlaneNumbers};
 
     const GOOD: PlaneNumbers = PlaneNumbers {
         width: 3,

@@ -14,8 +14,9 @@
 use std::env;
 use std::process::ExitCode;
 
+use differ::case::{Failure, Tally};
 use differ::random::{self, Random, SEED_VARIABLE};
-use differ::runs::{RUNS, Run, WHOLE};
+use differ::runs::{RUNS, Run, WHOLE, Whole};
 
 fn main() -> ExitCode {
     let mut names: Vec<String> = env::args().skip(1).collect();
@@ -28,11 +29,20 @@ fn main() -> ExitCode {
         }
         return ExitCode::SUCCESS;
     }
-    let mut list = RUNS;
-    if names.first().is_some_and(|name| name == "--whole") {
+    let whole = names.first().is_some_and(|name| name == "--whole");
+    let list: Vec<Named> = if whole {
         names.remove(0);
-        list = WHOLE;
-    }
+        let named = |run: &Whole| (run.name, Box::new(run.run) as Done);
+        WHOLE.iter().map(named).collect()
+    } else {
+        let named = |run: &'static Run| {
+            (
+                run.name,
+                Box::new(|random: &mut Random| run.tally(random)) as Done,
+            )
+        };
+        RUNS.iter().map(named).collect()
+    };
     let (seed, runs) = match random::seed().and_then(|seed| Ok((seed, chosen(list, &names)?))) {
         Ok(chosen) => chosen,
         Err(complaint) => {
@@ -41,8 +51,8 @@ fn main() -> ExitCode {
         }
     };
     println!("seed {seed} (another by {SEED_VARIABLE})");
-    for run in runs {
-        match (run.run)(&mut Random::for_run(seed, run.name)) {
+    for (name, run) in runs {
+        match run(&mut Random::for_run(seed, name)) {
             Ok(tally) => println!("{tally}"),
             Err(failure) => {
                 println!("{failure}");
@@ -53,17 +63,22 @@ fn main() -> ExitCode {
     ExitCode::SUCCESS
 }
 
+type Done = Box<dyn Fn(&mut Random) -> Result<Tally, Failure>>;
+
+/// A run's name, and the run.
+type Named = (&'static str, Done);
+
 /// The runs of these names, in the order of the list; all of them for no name.
-fn chosen(list: &'static [Run], names: &[String]) -> Result<Vec<&'static Run>, String> {
+fn chosen(list: Vec<Named>, names: &[String]) -> Result<Vec<Named>, String> {
     for name in names {
-        if list.iter().all(|run| run.name != name) {
-            let known: Vec<_> = list.iter().map(|run| run.name).collect();
+        if list.iter().all(|(known, _)| known != name) {
+            let known: Vec<_> = list.iter().map(|(name, _)| *name).collect();
             return Err(format!(
                 "there is no run `{name}`; expected --list, --whole, or names of: {}",
                 known.join(", ")
             ));
         }
     }
-    let wanted = |run: &&Run| names.is_empty() || names.iter().any(|name| name == run.name);
-    Ok(list.iter().filter(wanted).collect())
+    let wanted = |(known, _): &Named| names.is_empty() || names.iter().any(|name| name == known);
+    Ok(list.into_iter().filter(wanted).collect())
 }

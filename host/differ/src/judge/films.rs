@@ -1,6 +1,6 @@
 //! The numbers of block counts and of the detector.
 
-use desk::PlaneNumbers;
+use desk::calls::PlaneNumbers;
 
 use super::{Lent, floats, in_bounds, lowest, needed};
 
@@ -89,7 +89,7 @@ mod tests {
         MOST_FRAMES, busy, cadences, detector_new, detector_predict, detector_push,
         detector_push_measured, detector_read,
     };
-    use desk::PlaneNumbers;
+    use desk::calls::PlaneNumbers;
 
     const SHAPE: PlaneNumbers = PlaneNumbers {
         width: 5,

@@ -1,6 +1,6 @@
 //! The number of a picture.
 
-use desk::{Conversion, OutputNumbers, PlaneNumbers};
+use desk::calls::{Conversion, OutputNumbers, PlaneNumbers};
 
 use super::{Lent, floats, in_bounds, lowest, needed, nine_within};
 
@@ -55,7 +55,7 @@ pub fn picture(
 #[cfg(test)]
 mod tests {
     use super::{Lent, picture};
-    use desk::{Conversion, OutputNumbers, PlaneNumbers};
+    use desk::calls::{Conversion, OutputNumbers, PlaneNumbers};
 
     const USUAL: Conversion = Conversion {
         luma_offset: 0.0,

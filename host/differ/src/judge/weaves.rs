@@ -1,7 +1,8 @@
 //! The numbers of weaving and readback: docs/RULES.md, "Planes" and "Fields and
 //! readback". Three planes are luma, cb and cr, all planar.
 
-use desk::{PlaneNumbers, ReadbackNumbers, WEAVER_BYTES};
+use desk::WEAVER_BYTES;
+use desk::calls::{PlaneNumbers, ReadbackNumbers};
 
 use super::{Lent, in_bounds, lowest, needed, row};
 
@@ -205,7 +206,7 @@ pub fn push(kept: Option<Kept>, parity: u8, timed: u8, field: [Lent; 3], room: R
 #[cfg(test)]
 mod tests {
     use super::{Kept, Lent, Room, half, line, push, readback, weave, woven_line};
-    use desk::{PlaneNumbers, ReadbackNumbers};
+    use desk::calls::{PlaneNumbers, ReadbackNumbers};
 
     fn lines(width: u32, height: u32, depth: u32, stride: u32) -> PlaneNumbers {
         PlaneNumbers {

@@ -3,7 +3,7 @@
 use oracle::video::filter::Samples;
 
 use super::read::{self, Asked};
-use crate::answers::{Answer, Call};
+use crate::answers::Answer;
 use crate::case::{Case, Difference, Failure, Least, Tally};
 use crate::judge;
 use crate::lent::one_place;
@@ -36,7 +36,7 @@ impl Case for At {
         let Asked { given, x, y } = &self.0;
         let (x, y) = (*x, *y);
         one_place(
-            |value| desk::at(given.lent(), given.shape, x, y, value),
+            |value| desk::calls::at(given.lent(), given.shape, x, y, value),
             self.wanted(),
         )
     }
@@ -60,6 +60,6 @@ pub(crate) fn answers(random: Random) -> impl Iterator<Item = Answer> {
         let case = At(asked);
         let wanted = case.wanted();
         let number = wanted.err().unwrap_or(0);
-        case.0.answer(Call::At, number).float(wanted.ok())
+        case.0.answer("at", number).float(wanted.ok())
     })
 }

@@ -13,7 +13,7 @@ use oracle::video::telecine::Detector;
 
 use super::film::{self, PATTERN, parity_named};
 use super::read;
-use crate::answers::{Answer, Call};
+use crate::answers::Answer;
 use crate::case::{Case, Difference, Failure, Least, Tally, same, smaller_numbers};
 use crate::given::{self, Contents, Given};
 use crate::judge;
@@ -266,7 +266,7 @@ impl Case for Blocks {
         for pattern in PATTERNS {
             let mut places = [pattern; 5];
             let [_, busy, _, total, _] = &mut places;
-            let given = desk::busy(
+            let given = desk::calls::busy(
                 self.given.lent(),
                 film::grid_of(shape),
                 lent.lent(),
@@ -388,7 +388,7 @@ fn right(random: &mut Random, given: Given) -> Blocks {
 }
 
 fn shaped(random: &mut Random, width: u32, height: u32) -> Given {
-    let mut shape = desk::PlaneNumbers {
+    let mut shape = desk::calls::PlaneNumbers {
         width,
         height,
         depth: if random.one_in(3) {
@@ -404,7 +404,7 @@ fn shaped(random: &mut Random, width: u32, height: u32) -> Given {
     // The words of a biplanar luma too, whose codes stand in the high bits: neither
     // side is told.
     let layout = *random.pick(&[0, 0, 1]);
-    let contents = Contents::picture(random, desk::PlaneNumbers { layout, ..shape });
+    let contents = Contents::picture(random, desk::calls::PlaneNumbers { layout, ..shape });
     Given::new(shape, length, contents)
 }
 
@@ -516,7 +516,7 @@ pub(crate) fn answers(mut random: Random) -> impl Iterator<Item = Answer> {
                 below.confirm_total(counts).expect("the Rust counts alike");
             }
         }
-        let answer = Answer::of(Call::Busy)
+        let answer = Answer::of("busy")
             .numbers(film::listed(case.given.shape))
             .number(case.parity)
             .gives(number)

@@ -6,7 +6,7 @@ use std::collections::BTreeMap;
 use oracle::video::telecine::Detector;
 
 use super::film::{Film, SYMBOLS, Seen, cadence_number, parity_named};
-use crate::answers::{Answer, Call};
+use crate::answers::Answer;
 use crate::case::{Case, Difference, Failure, Least, Tally, same, smaller_numbers};
 use crate::judge::films;
 use crate::lent::{Between, Guarded, PATTERNS};
@@ -115,7 +115,7 @@ impl Case for Reel {
         let lent = Between::noise(&bytes);
         for pattern in PATTERNS {
             let mut out = Guarded::<u8>::filled(pattern, self.out);
-            let given = desk::cadences(lent.lent(), out.lend());
+            let given = desk::calls::cadences(lent.lent(), out.lend());
             same("the number, which is the rules'", given, number)?;
             // The compiler must not suppose that the call kept to what it was lent.
             std::hint::black_box(&out).written(&expected)?;
@@ -308,7 +308,7 @@ pub(crate) fn answers(mut random: Random) -> impl Iterator<Item = Answer> {
             random_reel(&mut random, length)
         };
         let (bytes, number, written) = reel.wanted();
-        Answer::of(Call::Cadences)
+        Answer::of("cadences")
             .gives(number)
             .slice(&bytes)
             .output(&written, reel.out)

@@ -1,7 +1,7 @@
 //! `desk_code` against `Samples::code`.
 
 use super::read::{self, Asked};
-use crate::answers::{Answer, Call};
+use crate::answers::Answer;
 use crate::case::{Case, Difference, Failure, Least, Tally};
 use crate::judge;
 use crate::lent::one_place;
@@ -32,7 +32,7 @@ impl Case for Code {
         let Asked { given, x, y } = &self.0;
         let (x, y) = (*x, *y);
         one_place(
-            |code| desk::code(given.lent(), given.shape, x, y, code),
+            |code| desk::calls::code(given.lent(), given.shape, x, y, code),
             self.wanted(),
         )
     }
@@ -56,6 +56,6 @@ pub(crate) fn answers(random: Random) -> impl Iterator<Item = Answer> {
         let case = Code(asked);
         let wanted = case.wanted();
         let number = wanted.err().unwrap_or(0);
-        case.0.answer(Call::Code, number).code(wanted.ok())
+        case.0.answer("code", number).code(wanted.ok())
     })
 }

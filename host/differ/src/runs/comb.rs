@@ -1,11 +1,11 @@
 //! `desk_comb` against `filter::comb`.
 
-use desk::PlaneNumbers;
+use desk::calls::PlaneNumbers;
 use oracle::mediadecoder::video::Plane;
 use oracle::video::filter;
 
 use super::read;
-use crate::answers::{Answer, Call};
+use crate::answers::Answer;
 use crate::case::{Case, Difference, Failure, Least, Tally, same};
 use crate::given::{self, Contents, Given};
 use crate::judge;
@@ -45,7 +45,7 @@ impl Case for Combed {
             ..
         } = given.shape;
         let number = one_place(
-            |total| desk::comb(given.lent(), width, height, depth, stride, total),
+            |total| desk::calls::comb(given.lent(), width, height, depth, stride, total),
             self.wanted(),
         )?;
         let kept = std::hint::black_box(given).lent() == given.plane().data;
@@ -100,7 +100,7 @@ pub(crate) fn answers(mut random: Random) -> impl Iterator<Item = Answer> {
         let case = Combed(given::random(&mut random, 20, 8, 1));
         let wanted = case.wanted();
         let [width, height, depth, stride, _] = read::listed(case.0.shape);
-        Answer::of(Call::Comb)
+        Answer::of("comb")
             .numbers([width, height, depth, stride])
             .gives(wanted.err().unwrap_or(0))
             .count(wanted.ok())

@@ -2,7 +2,7 @@
 
 use oracle::video::filter;
 
-use crate::answers::{Answer, Call};
+use crate::answers::Answer;
 use crate::case::{Case, Difference, Failure, Least, Tally, same, smaller_numbers};
 use crate::given::{Contents, at_an_edge};
 use crate::judge;
@@ -50,7 +50,7 @@ impl Case for Picture {
         let bytes = self.bytes();
         let lent = Between::noise(&bytes);
         let number = one_place(
-            |total| desk::comb_rgba(lent.lent(), width, height, total),
+            |total| desk::calls::comb_rgba(lent.lent(), width, height, total),
             self.wanted(&bytes),
         )?;
         let kept = std::hint::black_box(&lent).lent() == bytes;
@@ -153,7 +153,7 @@ pub(crate) fn answers(mut random: Random) -> impl Iterator<Item = Answer> {
         let case = random_picture(&mut random);
         let bytes = case.bytes();
         let wanted = case.wanted(&bytes);
-        Answer::of(Call::CombRgba)
+        Answer::of("comb_rgba")
             .numbers([case.width, case.height])
             .gives(wanted.err().unwrap_or(0))
             .count(wanted.ok())

@@ -8,16 +8,17 @@
 use std::cell::Cell;
 use std::collections::BTreeMap;
 use std::fmt;
+use std::mem;
 use std::rc::Rc;
 
-use desk::PlaneNumbers;
+use desk::calls::PlaneNumbers;
 use oracle::video::telecine::Detector;
 
 use super::film::{
     Film, Look, PATTERN, SYMBOLS, Seen, Shown, Symbol, cadence_number, grid_of, listed,
     parity_named,
 };
-use crate::answers::{self, Answer, DETECTOR_ROOM, FILL, STORE_ROOM};
+use crate::answers::{Answer, FILL, STATE_ROOM, STORE_ROOM};
 use crate::case::{Case, Difference, Failure, Least, Tally, same, smaller_numbers};
 use crate::judge;
 use crate::judge::films::{self, MOST_FRAMES, STATE};
@@ -126,14 +127,14 @@ impl Sides {
         }
         let was = state;
         let store: Vec<u8> = (0..room + 2 * GUARD).map(|at| (at * 7) as u8).collect();
-        let short = desk::detector_new(&mut state[GUARD..GUARD + STATE - 1]);
+        let short = desk::calls::detector_new(&mut state[GUARD..GUARD + STATE - 1]);
         same(
             "the number of a state too short",
             short,
             films::detector_new(STATE - 1),
         )?;
         same("a state too short", state == was, true)?;
-        let number = desk::detector_new(&mut state[GUARD..][..STATE + MORE_STATE]);
+        let number = desk::calls::detector_new(&mut state[GUARD..][..STATE + MORE_STATE]);
         same("the number of a fresh detector", number, 0)?;
         let sides = Self {
             rust: Detector::new(),
@@ -174,12 +175,12 @@ impl Sides {
     fn asked(&self) -> Result<(), Difference> {
         let state = &self.state[GUARD..][..STATE];
         let mut locked = 9;
-        let number = desk::detector_locked(state, &mut locked);
+        let number = desk::calls::detector_locked(state, &mut locked);
         let wanted = (0, u8::from(self.rust.locked()));
         same("whether it is locked", (number, locked), wanted)?;
         for ahead in AHEAD {
             let mut cadence = 9;
-            let number = desk::detector_predict(state, ahead, &mut cadence);
+            let number = desk::calls::detector_predict(state, ahead, &mut cadence);
             let wanted = cadence_number(self.rust.predict(ahead));
             if (number, cadence) != (0, wanted) {
                 let what = format!("the prediction {ahead} ahead");
@@ -195,18 +196,18 @@ impl Sides {
         let mut place = 9;
         for length in [0, 1, STATE - 1] {
             let short = &self.state[GUARD..][..length];
-            let number = desk::detector_locked(short, &mut place);
+            let number = desk::calls::detector_locked(short, &mut place);
             let wanted = (films::detector_read(length), 9);
             same("the lock of a state too short", (number, place), wanted)?;
             for ahead in [0, 1_000_001] {
-                let number = desk::detector_predict(short, ahead, &mut place);
+                let number = desk::calls::detector_predict(short, ahead, &mut place);
                 let wanted = (films::detector_predict(length, ahead), 9);
                 same("a prediction of a state too short", (number, place), wanted)?;
             }
         }
         let state = &self.state[GUARD..][..STATE];
         for ahead in [1_000_001, 1 << 32, u64::MAX] {
-            let number = desk::detector_predict(state, ahead, &mut place);
+            let number = desk::calls::detector_predict(state, ahead, &mut place);
             let wanted = (films::detector_predict(STATE, ahead), 9);
             same("a prediction too far ahead", (number, place), wanted)?;
         }
@@ -226,7 +227,7 @@ impl Sides {
             } => {
                 let state = state.min(STATE + MORE_STATE);
                 let store = store.min(self.store.len() - 2 * GUARD);
-                let given = desk::detector_push(
+                let given = desk::calls::detector_push(
                     &mut self.state[GUARD..][..state],
                     parity,
                     shown.lent(),
@@ -253,7 +254,7 @@ impl Sides {
                 state,
             } => {
                 let state = state.min(STATE + MORE_STATE);
-                let given = desk::detector_push_measured(
+                let given = desk::calls::detector_push_measured(
                     &mut self.state[GUARD..][..state],
                     parity,
                     present,
@@ -276,7 +277,7 @@ impl Sides {
             }
             Call::Reset { state } => {
                 let state = state.min(STATE + MORE_STATE);
-                let given = desk::detector_reset(&mut self.state[GUARD..][..state]);
+                let given = desk::calls::detector_reset(&mut self.state[GUARD..][..state]);
                 let number = films::detector_read(state);
                 if number == 0 {
                     self.rust.reset();
@@ -1025,14 +1026,14 @@ impl Recorder {
             self.kept = 0;
             self.taken = 0;
         }
-        let answer = Answer::of(answers::Call::DetectorNew);
+        let answer = Answer::of("detector_new");
         self.found.push(answer.number(state as u64).gives(number));
     }
 
     fn locked(&mut self, state: usize) {
         let number = films::detector_read(state);
         let locked = (number == 0).then(|| self.rust.locked().into());
-        let answer = Answer::of(answers::Call::DetectorLocked);
+        let answer = Answer::of("detector_locked");
         let answer = answer.number(state as u64).gives(number).byte(locked);
         self.found.push(answer);
     }
@@ -1040,7 +1041,7 @@ impl Recorder {
     fn predict(&mut self, state: usize, ahead: u64) {
         let number = films::detector_predict(state, ahead);
         let cadence = (number == 0).then(|| cadence_number(self.rust.predict(ahead)));
-        let answer = Answer::of(answers::Call::DetectorPredict);
+        let answer = Answer::of("detector_predict");
         let answer = answer.number(state as u64).number(ahead);
         self.found.push(answer.gives(number).byte(cadence));
     }
@@ -1053,7 +1054,7 @@ impl Recorder {
                 store,
                 state,
             } => {
-                let state = state.min(DETECTOR_ROOM);
+                let state = state.min(STATE_ROOM);
                 let store = store.min(room);
                 let lent = (shown.shape, shown.length);
                 let number =
@@ -1065,7 +1066,7 @@ impl Recorder {
                     self.taken += 1;
                     cadence_number(self.rust.push(frame))
                 });
-                let answer = Answer::of(answers::Call::DetectorPush)
+                let answer = Answer::of("detector_push")
                     .number(state as u64)
                     .number(parity)
                     .numbers(listed(shown.shape))
@@ -1081,7 +1082,7 @@ impl Recorder {
                 numbers: [busy, total, other_busy, other_total],
                 state,
             } => {
-                let state = state.min(DETECTOR_ROOM);
+                let state = state.min(STATE_ROOM);
                 let number = films::detector_push_measured(state, parity, present, self.taken);
                 let cadence = (number == 0).then(|| {
                     let measured = (present == 1).then_some((
@@ -1091,7 +1092,7 @@ impl Recorder {
                     self.taken += 1;
                     cadence_number(self.rust.push_measured(parity_named(parity), measured))
                 });
-                let answer = Answer::of(answers::Call::DetectorPushMeasured)
+                let answer = Answer::of("detector_push_measured")
                     .number(state as u64)
                     .number(parity)
                     .number(present)
@@ -1104,14 +1105,14 @@ impl Recorder {
                 self.found.push(answer);
             }
             Call::Reset { state } => {
-                let state = state.min(DETECTOR_ROOM);
+                let state = state.min(STATE_ROOM);
                 let number = films::detector_read(state);
                 if number == 0 {
                     self.rust.reset();
                     self.kept = 0;
                     self.taken = 0;
                 }
-                let answer = Answer::of(answers::Call::DetectorReset);
+                let answer = Answer::of("detector_reset");
                 self.found.push(answer.number(state as u64).gives(number));
             }
             // How a state's bytes stand for its numbers is the desk's own affair.
@@ -1160,8 +1161,7 @@ fn cadenced(film: &Calls) -> usize {
     let room = film.room().min(STORE_ROOM);
     film.calls.iter().for_each(|call| recorder.take(call, room));
     let belongs = |answer: &&Answer| {
-        use answers::Call::{DetectorPush, DetectorPushMeasured};
-        let frame = matches!(answer.call, DetectorPush | DetectorPushMeasured);
+        let frame = matches!(answer.call, "detector_push" | "detector_push_measured");
         frame && answer.gives == 0 && answer.last() != Some(0)
     };
     recorder.found.iter().filter(belongs).count()
@@ -1222,9 +1222,10 @@ fn plain_film(random: &mut Random, length: usize) -> Calls {
 /// leading field and of the size, and refused calls: of each kind those in which
 /// a third of the frames or more belong to a cadence, and a few others. Then a
 /// lock from every step, ended by the twelfth still, and short runs of any calls.
-pub(crate) fn answers(mut random: Random) -> Vec<Answer> {
+pub(crate) fn answers(mut random: Random, store: &mut Vec<u8>) -> Vec<Answer> {
     let random = &mut random;
     let mut recorder = Recorder::new();
+    mem::swap(&mut recorder.store, store);
     for kind in 0..11 {
         let film = loop {
             let film = if kind < 5 {
@@ -1254,5 +1255,6 @@ pub(crate) fn answers(mut random: Random) -> Vec<Answer> {
         let calls = (0..6).map(|_| random.pick(&letters).clone()).collect();
         recorder.film(random, &Calls::new(calls));
     }
+    mem::swap(&mut recorder.store, store);
     recorder.found
 }

@@ -5,7 +5,7 @@ use std::rc::Rc;
 use oracle::video::filter;
 
 use super::read::{self, Asked};
-use crate::answers::{Answer, Call};
+use crate::answers::Answer;
 use crate::case::{Case, Difference, Failure, Least, Tally};
 use crate::given::{self, Contents};
 use crate::judge;
@@ -33,7 +33,7 @@ impl Case for Edge {
         let Asked { given, x, y } = &self.0;
         let (x, y) = (*x, *y);
         one_place(
-            |slant| desk::edge(given.lent(), given.shape, x, y, slant),
+            |slant| desk::calls::edge(given.lent(), given.shape, x, y, slant),
             self.wanted(),
         )
     }
@@ -78,6 +78,6 @@ pub(crate) fn answers(mut random: Random) -> impl Iterator<Item = Answer> {
         let case = Edge(asked);
         let wanted = case.wanted();
         let number = wanted.err().unwrap_or(0);
-        case.0.answer(Call::Edge, number).slant(wanted.ok())
+        case.0.answer("edge", number).slant(wanted.ok())
     })
 }

@@ -3,7 +3,7 @@
 use std::hint::black_box;
 use std::rc::Rc;
 
-use desk::{FieldNumbers, LinesNumbers, PlaneNumbers};
+use desk::calls::{FieldNumbers, LinesNumbers, PlaneNumbers};
 use oracle::mediadecoder::es::Format;
 use oracle::mediadecoder::video::Frame;
 

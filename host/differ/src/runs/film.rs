@@ -4,7 +4,7 @@
 use std::cell::OnceCell;
 use std::fmt;
 
-use desk::{GridNumbers, PlaneNumbers};
+use desk::calls::{GridNumbers, PlaneNumbers};
 use oracle::mediadecoder::es::Format;
 use oracle::mediadecoder::video::{Frame, Plane};
 use oracle::video::field::{Cadence, Parity};

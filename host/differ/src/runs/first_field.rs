@@ -4,7 +4,7 @@ use oracle::decode::About;
 use oracle::mediadecoder::es::Structure;
 use oracle::video::field;
 
-use crate::answers::{Answer, Call};
+use crate::answers::Answer;
 use crate::case::{Case, Difference, Failure, Least, Tally, same, smaller_numbers};
 use crate::lent::Guarded;
 use crate::random::Random;
@@ -52,7 +52,8 @@ impl Case for Codes {
         let mut expected = self.parity;
         let wanted = by_rust(self.structure, self.top_field_first, &mut expected);
         let mut lent = Guarded::holding(0, &[self.parity]);
-        let number = desk::first_field(self.structure, self.top_field_first, &mut lent.lend()[0]);
+        let number =
+            desk::calls::first_field(self.structure, self.top_field_first, &mut lent.lend()[0]);
         same("the number", number, wanted)?;
         lent.written(&[expected])?;
         Ok(number)
@@ -102,7 +103,7 @@ pub(crate) fn answers() -> impl Iterator<Item = Answer> {
         codes.into_iter().map(move |top_field_first| {
             let mut parity = 0;
             let number = by_rust(structure, top_field_first, &mut parity);
-            Answer::of(Call::FirstField)
+            Answer::of("first_field")
                 .number(structure)
                 .number(top_field_first)
                 .gives(number)

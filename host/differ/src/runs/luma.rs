@@ -2,7 +2,7 @@
 
 use oracle::video::colour::Primaries;
 
-use crate::answers::{Answer, Call};
+use crate::answers::Answer;
 use crate::case::{Case, Difference, Failure, Least, Tally, smaller_numbers};
 use crate::lent::three_places;
 use crate::random::Random;
@@ -26,7 +26,7 @@ impl Code {
 impl Case for Code {
     fn compare(&self) -> Result<u8, Difference> {
         three_places(
-            |red, green, blue| desk::luma(self.0, red, green, blue),
+            |red, green, blue| desk::calls::luma(self.0, red, green, blue),
             self.wanted(),
         )
     }
@@ -52,7 +52,7 @@ pub(crate) fn answers() -> impl Iterator<Item = Answer> {
     [0, 1, 2, 3, 128, 255].into_iter().map(|code: u8| {
         let wanted = Code(code).wanted();
         let value = |at: usize| wanted.ok().map(|weights| weights[at]);
-        Answer::of(Call::Luma)
+        Answer::of("luma")
             .number(code)
             .gives(wanted.err().unwrap_or(0))
             .float(value(0))

@@ -7,7 +7,7 @@
 
 use std::rc::Rc;
 
-use desk::{FrameNumbers, OutputNumbers, PlaneNumbers};
+use desk::calls::{FrameNumbers, OutputNumbers, PlaneNumbers};
 use oracle::video::colour::{self, Matrix};
 use oracle::video::field::{Output, Parity, Source};
 use oracle::video::filter::{self, Planes, Rows};
@@ -16,7 +16,7 @@ use oracle::video::{Deinterlace, Settings};
 use super::read;
 use super::to_rgb::{self, Nine};
 use super::trio::{self, Draft, quality_named};
-use crate::answers::{Answer, Call};
+use crate::answers::Answer;
 use crate::case::{Case, Difference, Failure, Least, Tally, same, smaller_numbers};
 use crate::given::{Contents, Given};
 use crate::judge::{self, Lent};
@@ -224,7 +224,7 @@ impl Case for Picture {
             let [previous_luma, previous_cb, previous_cr] = previous.bytes();
             let [current_luma, current_cb, current_cr] = current.bytes();
             let [following_luma, following_cb, following_cr] = following.bytes();
-            let given = desk::picture(
+            let given = desk::calls::picture(
                 self.quality,
                 self.output,
                 conversion,
@@ -622,7 +622,7 @@ pub(crate) fn answers(mut random: Random) -> impl Iterator<Item = Answer> {
             later,
         } = case.output;
         let (number, written) = case.wanted();
-        let mut answer = Answer::of(Call::Picture)
+        let mut answer = Answer::of("picture")
             .number(case.quality)
             .numbers([field, weave, earlier, later])
             .floats(case.colours.nine());

@@ -5,7 +5,7 @@ use oracle::video::filter::{self, Samples};
 
 use super::read::numbers;
 use super::trio::{self, Trio, quality_named};
-use crate::answers::{Answer, Call};
+use crate::answers::Answer;
 use crate::case::{Case, Difference, Failure, Least, Tally, same, smaller_numbers};
 use crate::judge;
 use crate::lent::{Guarded, PATTERNS};
@@ -63,7 +63,7 @@ impl Case for Whole {
         let [before, cur, after] = &trio.0;
         for pattern in PATTERNS {
             let mut lent = Guarded::filled(pattern, out);
-            let given = desk::plane(
+            let given = desk::calls::plane(
                 quality,
                 first,
                 before.lent(),
@@ -175,7 +175,7 @@ pub fn run(random: &mut Random) -> Result<Tally, Failure> {
 }
 
 /// The widest and the highest, each with a quality.
-const WIDE: [(u8, [desk::PlaneNumbers; 3]); 6] = [
+const WIDE: [(u8, [desk::calls::PlaneNumbers; 3]); 6] = [
     (
         2,
         [
@@ -208,9 +208,7 @@ pub(crate) fn answers(mut random: Random) -> impl Iterator<Item = Answer> {
             right(&mut random, trio)
         };
         let (number, written) = case.wanted();
-        let front = Answer::of(Call::Plane)
-            .number(case.quality)
-            .number(case.first);
+        let front = Answer::of("plane").number(case.quality).number(case.first);
         case.trio
             .answer(front)
             .gives(number)

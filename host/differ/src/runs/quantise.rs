@@ -3,7 +3,7 @@
 
 use oracle::video::colour;
 
-use crate::answers::{Answer, Call};
+use crate::answers::Answer;
 use crate::case::{Case, Difference, Failure, Least, Tally, same, smaller_numbers};
 use crate::random::Random;
 
@@ -45,7 +45,7 @@ impl Case for Floats {
     fn compare(&self) -> Result<u8, Difference> {
         for bits in self.bits() {
             let value = f32::from_bits(bits);
-            let (rattle, rust) = (desk::quantise(value), colour::quantise(value));
+            let (rattle, rust) = (desk::calls::quantise(value), colour::quantise(value));
             if rattle != rust {
                 same("the byte", rattle, rust)?;
             }
@@ -157,7 +157,7 @@ pub(crate) fn answers(mut random: Random) -> impl Iterator<Item = Answer> {
             let middle = first.wrapping_add(count / 2);
             f32::from_bits(middle.wrapping_add(random.below(5) as u32).wrapping_sub(2))
         };
-        Answer::of(Call::Quantise)
+        Answer::of("quantise")
             .floats([value])
             .number(by_rust(value))
     })

@@ -2,10 +2,10 @@
 
 use std::rc::Rc;
 
-use desk::PlaneNumbers;
+use desk::calls::PlaneNumbers;
 use oracle::video::filter::{Planes, Samples};
 
-use crate::answers::{Answer, Call};
+use crate::answers::Answer;
 use crate::case::smaller_numbers;
 use crate::given::{self, Contents, Given};
 use crate::judge;
@@ -258,7 +258,7 @@ pub fn small(mut random: Random, outside_in: u64) -> impl Iterator<Item = Asked>
 
 impl Asked {
     /// The front of the answer: what is asked, and the number that it gives.
-    pub fn answer(&self, call: Call, number: u8) -> Answer {
+    pub fn answer(&self, call: &'static str, number: u8) -> Answer {
         Answer::of(call)
             .numbers(listed(self.given.shape))
             .signed(self.x)

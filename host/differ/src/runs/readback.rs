@@ -3,14 +3,14 @@
 use std::hint::black_box;
 use std::rc::Rc;
 
-use desk::ReadbackNumbers;
+use desk::calls::ReadbackNumbers;
 use oracle::decode::weave;
 use oracle::decode::{About, Readback};
 use oracle::mediadecoder::es::Format;
 use oracle::mediadecoder::video::Frame;
 
 use super::fields::{self, affordable};
-use crate::answers::{Answer, Call};
+use crate::answers::Answer;
 use crate::case::{Case, Difference, Failure, Least, Tally, same, smaller_numbers};
 use crate::given::{Contents, EDGES_OF_HEIGHT, EDGES_OF_WIDTH, Given, edge_of};
 use crate::judge;
@@ -97,11 +97,10 @@ impl Case for Read {
         };
         for pattern in PATTERNS {
             let mut lent = self.outs.map(|length| Guarded::filled(pattern, length));
-            let given = desk::readback(
-                self.about,
-                self.planes.each_ref().map(|given| given.lent()),
-                lent.each_mut().map(Guarded::lend),
-            );
+            let [luma, second, third] = self.planes.each_ref().map(|given| given.lent());
+            let [out_luma, out_cb, out_cr] = lent.each_mut().map(Guarded::lend);
+            let given =
+                desk::calls::readback(self.about, luma, second, third, out_luma, out_cb, out_cr);
             same("the number, which is the rules'", given, number)?;
             // The compiler must not suppose that the call kept to what it was lent.
             for (lent, expected) in black_box(&lent).iter().zip(&expected) {
@@ -374,7 +373,7 @@ pub(crate) fn answers(mut random: Random) -> impl Iterator<Item = Answer> {
             second_pitch,
             third_pitch,
         } = read.about;
-        let mut answer = Answer::of(Call::Readback)
+        let mut answer = Answer::of("readback")
             .numbers([planes, width, height, depth])
             .numbers([luma_pitch, second_pitch, third_pitch])
             .gives(number);

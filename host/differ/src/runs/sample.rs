@@ -7,7 +7,7 @@ use oracle::video::filter::{self, Rows, Samples};
 
 use super::read::{self, nearer_to_nought, numbers};
 use super::trio::{self, Trio, quality_named};
-use crate::answers::{Answer, Call};
+use crate::answers::Answer;
 use crate::case::{Case, Difference, Failure, Least, Tally, smaller_numbers};
 use crate::judge;
 use crate::lent::one_place;
@@ -71,7 +71,7 @@ impl Case for Sample {
         let [before, cur, after] = &trio.0;
         one_place(
             |value| {
-                desk::sample(
+                desk::calls::sample(
                     quality,
                     before.lent(),
                     before.shape,
@@ -215,7 +215,7 @@ pub fn run(random: &mut Random) -> Result<Tally, Failure> {
 }
 
 /// The widest, the highest, the largest stride, and a usual size.
-const LARGE: [[desk::PlaneNumbers; 3]; 4] = [
+const LARGE: [[desk::calls::PlaneNumbers; 3]; 4] = [
     [
         numbers(8192, 5, 16, 32_768, 2),
         numbers(8192, 5, 16, 65_536, 3),
@@ -241,7 +241,7 @@ pub(crate) fn answers(mut random: Random) -> impl Iterator<Item = Answer> {
         let trio = Rc::new(trio::random(&mut random, 12, 8, whole));
         let case = asked(&mut random, &trio);
         let wanted = case.wanted();
-        trio.answer(Answer::of(Call::Sample).number(case.quality))
+        trio.answer(Answer::of("sample").number(case.quality))
             .numbers([case.first, case.mate])
             .signed(case.x)
             .signed(case.y)

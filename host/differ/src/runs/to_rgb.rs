@@ -1,9 +1,9 @@
 //! `desk_to_rgb` against `Conversion::to_rgb`, by the bits of the three values.
 
-use desk::Conversion;
+use desk::calls::Conversion;
 use oracle::video::colour::{self, Adjust, Matrix};
 
-use crate::answers::{Answer, Call};
+use crate::answers::Answer;
 use crate::case::{Case, Difference, Failure, Least, Tally};
 use crate::judge;
 use crate::lent::three_places;
@@ -98,7 +98,7 @@ impl Case for Coloured {
         let conversion = for_desk(self.nine);
         let [y, cb, cr] = self.samples;
         three_places(
-            |red, green, blue| desk::to_rgb(conversion, y, cb, cr, red, green, blue),
+            |red, green, blue| desk::calls::to_rgb(conversion, y, cb, cr, red, green, blue),
             self.wanted(),
         )
     }
@@ -387,7 +387,7 @@ pub(crate) fn answers(mut random: Random) -> impl Iterator<Item = Answer> {
         };
         let wanted = case.wanted();
         let value = |at: usize| wanted.ok().map(|rgb| rgb[at]);
-        Answer::of(Call::ToRgb)
+        Answer::of("to_rgb")
             .floats(case.nine)
             .floats(case.samples)
             .gives(wanted.err().unwrap_or(0))

@@ -2,7 +2,7 @@
 
 use std::rc::Rc;
 
-use desk::PlaneNumbers;
+use desk::calls::PlaneNumbers;
 use oracle::video::Deinterlace;
 use oracle::video::filter::Samples;
 

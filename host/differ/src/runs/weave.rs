@@ -6,7 +6,7 @@ use oracle::decode::weave;
 use oracle::mediadecoder::video::Frame;
 
 use super::fields::{self, Field, affordable};
-use crate::answers::{Answer, Call};
+use crate::answers::Answer;
 use crate::case::{Case, Difference, Failure, Least, Tally, same, smaller_numbers};
 use crate::judge;
 use crate::lent::{Guarded, PATTERNS};
@@ -49,12 +49,12 @@ impl Case for Pair {
         let (number, expected) = self.wanted();
         for pattern in PATTERNS {
             let mut lent = outs.map(|length| Guarded::filled(pattern, length));
-            let given = desk::weave(
-                top.numbers(),
-                top.planes(),
-                bottom.numbers(),
-                bottom.planes(),
-                lent.each_mut().map(Guarded::lend),
+            let [out_luma, out_cb, out_cr] = lent.each_mut().map(Guarded::lend);
+            let [top_luma, top_cb, top_cr] = top.planes();
+            let [luma, cb, cr] = bottom.planes();
+            let (top, bottom) = (top.numbers(), bottom.numbers());
+            let given = desk::calls::weave(
+                top, top_luma, top_cb, top_cr, bottom, luma, cb, cr, out_luma, out_cb, out_cr,
             );
             same("the number, which is the rules'", given, number)?;
             // The compiler must not suppose that the call kept to what it was lent.
@@ -200,7 +200,7 @@ pub(crate) fn answers(mut random: Random) -> impl Iterator<Item = Answer> {
             right(&mut random, size)
         };
         let (number, written) = pair.wanted();
-        let mut answer = pair.top.answer(Answer::of(Call::Weave));
+        let mut answer = pair.top.answer(Answer::of("weave"));
         answer = pair.bottom.answer(answer).gives(number);
         for (written, lent) in written.iter().zip(pair.outs) {
             answer = answer.output(written, lent);

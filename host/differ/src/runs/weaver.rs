@@ -10,6 +10,7 @@ use std::cell::RefCell;
 use std::collections::BTreeMap;
 use std::fmt;
 use std::hint::black_box;
+use std::mem;
 
 use desk::WEAVER_BYTES;
 use oracle::decode::weave::Weaver;
@@ -17,7 +18,7 @@ use oracle::mediadecoder::es::Format;
 use oracle::mediadecoder::video::{Frame, Plane};
 
 use super::fields::{self, Field};
-use crate::answers::{Answer, Call, FILL, STORE_ROOM};
+use crate::answers::Answer;
 use crate::case::{Case, Difference, Failure, Least, Tally, same, smaller_numbers};
 use crate::judge;
 use crate::judge::weaves::{Kept, Room};
@@ -211,15 +212,21 @@ impl Sides {
         let mut flags = [0; 2].map(|_| Guarded::<u8>::noise(random.next(), 1));
         let mut earlier = Guarded::<i64>::noise(random.next(), 1);
         let [picture, earlier_timed] = &mut flags;
-        let given = desk::weaver_push(
+        let [luma, cb, cr] = field.planes();
+        let [out_luma, out_cb, out_cr] = outs.each_mut().map(Guarded::lend);
+        let given = desk::calls::weaver_push(
             state.lend(),
             parity,
             timed,
             time,
             field.numbers(),
-            field.planes(),
+            luma,
+            cb,
+            cr,
             store.lend(),
-            outs.each_mut().map(Guarded::lend),
+            out_luma,
+            out_cb,
+            out_cr,
             &mut picture.lend()[0],
             &mut earlier_timed.lend()[0],
             &mut earlier.lend()[0],
@@ -325,15 +332,15 @@ impl Case for Stream {
             kept: None,
         };
         let mut numbers = BTreeMap::new();
-        sides.of_state(STATE, 0, desk::weaver_new)?;
+        sides.of_state(STATE, 0, desk::calls::weaver_new)?;
         for (at, step) in self.steps.iter().enumerate() {
             let too_short = |length: usize, number| if length < WEAVER_BYTES { number } else { 0 };
             let number = match step {
                 Step::New(length) => {
-                    sides.of_state(*length, too_short(*length, 7), desk::weaver_new)
+                    sides.of_state(*length, too_short(*length, 7), desk::calls::weaver_new)
                 }
                 Step::Clear(length) => {
-                    sides.of_state(*length, too_short(*length, 6), desk::weaver_clear)
+                    sides.of_state(*length, too_short(*length, 6), desk::calls::weaver_clear)
                 }
                 Step::Push(push) => sides.push(push),
                 Step::State(numbers) => {
@@ -641,7 +648,7 @@ struct Recorder {
 
 impl Recorder {
     /// A call that has nothing but the state.
-    fn of_state(&mut self, call: Call, state: usize, too_short: u8) {
+    fn of_state(&mut self, call: &'static str, state: usize, too_short: u8) {
         let number = if state < WEAVER_BYTES { too_short } else { 0 };
         if number == 0 {
             self.rust.clear();
@@ -686,7 +693,7 @@ impl Recorder {
                 }
             };
         }
-        let front = Answer::of(Call::WeaverPush)
+        let front = Answer::of("weaver_push")
             .number(room.state as u64)
             .number(parity)
             .number(timed)
@@ -710,10 +717,10 @@ const MOST_BYTES: usize = 2_000;
 
 /// Streams of small fields that alternate, repeat and change, with and without
 /// times, with clears and refused calls, each from a new weaver.
-pub(crate) fn answers(mut random: Random) -> Vec<Answer> {
+pub(crate) fn answers(mut random: Random, store: &mut Vec<u8>) -> Vec<Answer> {
     let mut recorder = Recorder {
         rust: Weaver::default(),
-        store: vec![FILL; STORE_ROOM],
+        store: mem::take(store),
         kept: None,
         found: Vec::new(),
     };
@@ -726,13 +733,13 @@ pub(crate) fn answers(mut random: Random) -> Vec<Answer> {
         streams += 1;
         if random.one_in(3) {
             let short = random.below(WEAVER_BYTES as u64) as usize;
-            recorder.of_state(Call::WeaverNew, short, 7);
+            recorder.of_state("weaver_new", short, 7);
         }
-        recorder.of_state(Call::WeaverNew, STATE, 7);
+        recorder.of_state("weaver_new", STATE, 7);
         for _ in 0..16 {
             match maker.step() {
-                Step::New(state) => recorder.of_state(Call::WeaverNew, state, 7),
-                Step::Clear(state) => recorder.of_state(Call::WeaverClear, state, 6),
+                Step::New(state) => recorder.of_state("weaver_new", state, 7),
+                Step::Clear(state) => recorder.of_state("weaver_clear", state, 6),
                 Step::Push(push) => {
                     let planes = push.field.lent().map(|(_, length)| length);
                     let lent = planes.into_iter().chain(push.room.outs);
@@ -744,7 +751,8 @@ pub(crate) fn answers(mut random: Random) -> Vec<Answer> {
                 Step::State(_) => {}
             }
         }
-        recorder.of_state(Call::WeaverClear, STATE, 6);
+        recorder.of_state("weaver_clear", STATE, 6);
     }
+    *store = recorder.store;
     recorder.found
 }

@@ -1,10 +1,10 @@
 //! `desk_woven` against `weave::woven`.
 
-use desk::FormatNumbers;
+use desk::calls::FormatNumbers;
 use oracle::decode::weave;
 use oracle::mediadecoder::es::Format;
 
-use crate::answers::{Answer, Call};
+use crate::answers::Answer;
 use crate::case::{Case, Difference, Failure, Least, Tally, same, smaller_numbers};
 use crate::random::Random;
 
@@ -95,7 +95,7 @@ impl Numbers {
 impl Case for Numbers {
     fn compare(&self) -> Result<u8, Difference> {
         let field = self.field();
-        same("the format", desk::woven(field), by_rust(field))?;
+        same("the format", desk::calls::woven(field), by_rust(field))?;
         Ok(0)
     }
 
@@ -169,6 +169,6 @@ pub(crate) fn answers(mut random: Random) -> impl Iterator<Item = Answer> {
     std::iter::repeat_with(move || {
         let numbers = numbers(&mut random);
         let woven = Numbers::of(by_rust(numbers.field()));
-        Answer::of(Call::Woven).numbers(numbers.0).numbers(woven.0)
+        Answer::of("woven").numbers(numbers.0).numbers(woven.0)
     })
 }

@@ -11,7 +11,7 @@ use oracle::mediadecoder::video::{Frame, Plane};
 
 use super::fields::{self, lines};
 use super::weave;
-use crate::answers::{Answer, Call};
+use crate::answers::Answer;
 use crate::case::{Case, Difference, Failure, Least, Tally, same, smaller_numbers};
 use crate::given::Given;
 use crate::judge;
@@ -100,7 +100,7 @@ impl Case for Line {
         let twin = judge::weaves::line(top.shape, bottom.shape, said, y);
         let [top_bytes, bottom_bytes] = said;
         let (top_lines, bottom_lines) = (lines(top.shape), lines(bottom.shape));
-        let given = desk::line_number(top_lines, top_bytes, bottom_lines, bottom_bytes, y);
+        let given = desk::calls::line_number(top_lines, top_bytes, bottom_lines, bottom_bytes, y);
         same("the twin's number, which is the rules'", given, twin)?;
 
         let lent = [top, bottom].map(|given| (given.shape, given.length));
@@ -108,7 +108,7 @@ impl Case for Line {
         let expected = if number == 0 { planes.line(y) } else { &[] };
         for pattern in PATTERNS {
             let mut lent = Guarded::filled(pattern, out);
-            let given = desk::woven_line(
+            let given = desk::calls::woven_line(
                 top.lent(),
                 top_lines,
                 bottom.lent(),
@@ -271,7 +271,7 @@ pub(crate) fn answers(random: Random) -> impl Iterator<Item = Answer> {
         } else {
             &[]
         };
-        Answer::of(Call::WovenLine)
+        Answer::of("woven_line")
             .numbers(fields::listed(top.shape))
             .numbers(fields::listed(bottom.shape))
             .number(line.y)
@@ -289,7 +289,7 @@ pub(crate) fn numbers(random: Random) -> impl Iterator<Item = Answer> {
         let Planes { top, bottom, .. } = &*line.planes;
         let [top_bytes, bottom_bytes] = line.said;
         let number = judge::weaves::line(top.shape, bottom.shape, line.said, line.y);
-        Answer::of(Call::LineNumber)
+        Answer::of("line_number")
             .numbers(fields::listed(top.shape))
             .number(top_bytes)
             .numbers(fields::listed(bottom.shape))
