@@ -584,7 +584,7 @@ pub struct Call {
     pub refusals: &'static [u8],
 }
 
-/// All of them. The place of a call here is its number in the list of the program `replay`.
+/// All of them, those of an archive in the order of their numbers in the list that its program `replay_..` reads.
 pub const CALLS: [Call; 28] = [
     Call { name: "to_rgb", archive: "desk", refusals: &[8] },
     Call { name: "quantise", archive: "desk", refusals: &[] },

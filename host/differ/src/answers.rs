@@ -1,7 +1,7 @@
-//! The list of answers that the program `replay` goes through
-//! (crates/replay/stdin): what the original answers to fixed inputs of every
-//! call of the desk, and which number docs/RULES.md gives where it refuses.
-//! Nothing of the proved code is asked.
+//! The lists of answers that the programs `replay_..` go through, one for each
+//! archive (crates/replay_desk/stdin and the others): what the original answers
+//! to fixed inputs of every call of the desk, and which number docs/RULES.md gives
+//! where it refuses. Nothing of the proved code is asked.
 //!
 //! The inputs are those of the differential runs, small ones, from a seed that
 //! does not change. A record of the list, by crates/answers: four numbers (its
@@ -15,28 +15,37 @@
 use std::collections::BTreeMap;
 use std::fmt;
 
-use desk::calls::CALLS;
+use desk::calls::{CALLS, Call};
 
 use crate::random::{Random, SEED};
 use crate::runs::RUNS;
 
-/// A call's number: its place in the table of calls.
-pub fn number_of(call: &str) -> usize {
-    let place = CALLS.iter().position(|known| known.name == call);
-    place.unwrap_or_else(|| panic!("`{call}` is no exported call"))
+/// A call of the table.
+pub fn call(name: &str) -> &'static Call {
+    let found = CALLS.iter().find(|known| known.name == name);
+    found.unwrap_or_else(|| panic!("`{name}` is no exported call"))
+}
+
+/// The archives, each with its calls in the order of their numbers in its list.
+pub fn archives() -> BTreeMap<&'static str, Vec<&'static str>> {
+    let mut found: BTreeMap<_, Vec<_>> = BTreeMap::new();
+    for call in &CALLS {
+        found.entry(call.archive).or_default().push(call.name);
+    }
+    found
 }
 
 /// The numbers with which a call refuses an input that a list can hold: 9 needs
 /// four billion frames.
 pub fn refusals(call: &str) -> impl Iterator<Item = u8> {
-    let refusals = CALLS[number_of(call)].refusals;
+    let refusals = self::call(call).refusals;
     refusals.iter().copied().filter(|number| *number != 9)
 }
 
-/// What `replay` fills every lent byte with before a call.
+/// What `replay_..` fills every lent byte with before a call.
 pub const FILL: u8 = 0xA5;
 
-/// Bytes of the arrays in which `replay` keeps a state and a store from record to
+/// Bytes of the arrays in which `replay_..` keeps a state and a store from record to
 /// record: one of each, whatever call they are lent to.
 pub const STATE_ROOM: usize = 256;
 pub const STORE_ROOM: usize = 8192;
@@ -144,7 +153,10 @@ impl Answer {
         let all = front + self.slices.iter().map(Vec::len).sum::<usize>();
         let head = [
             all,
-            number_of(self.call),
+            archives()[call(self.call).archive]
+                .iter()
+                .position(|name| *name == self.call)
+                .expect("an archive has its calls"),
             self.numbers.len(),
             self.slices.len(),
         ];
@@ -203,15 +215,26 @@ pub fn picked(
     found
 }
 
-/// The whole list, the same each time. Every run gives its part; the store is
-/// handed on from one to the next, as `replay` does.
-pub fn list() -> Vec<Answer> {
+/// The list of an archive, the same each time. Every run of its calls gives a
+/// part; the store is handed on from one to the next, as `replay_..` does.
+pub fn list(archive: &str) -> Vec<Answer> {
     let mut store = vec![FILL; STORE_ROOM];
     let mut all = Vec::new();
     for run in RUNS {
-        all.extend((run.answers)(Random::for_run(SEED, run.name), &mut store));
+        if call(run.calls[0]).archive == archive {
+            all.extend((run.answers)(Random::for_run(SEED, run.name), &mut store));
+        }
     }
+    assert!(
+        all.iter()
+            .all(|answer| call(answer.call).archive == archive)
+    );
     all
+}
+
+/// What `replay_..` prints of a list where nothing differs.
+pub fn printed(list: &[Answer]) -> String {
+    format!("{} compared, 0 differ\n", list.len())
 }
 
 /// The bytes of the list.
@@ -249,15 +272,13 @@ impl Counts {
     }
 
     pub fn accepted(&self) -> usize {
-        CALLS.iter().map(|call| self.gave(call.name, 0)).sum()
+        self.0.keys().map(|name| self.gave(name, 0)).sum()
     }
 }
 
 impl fmt::Display for Counts {
     fn fmt(&self, f: &mut fmt::Formatter<'_>) -> fmt::Result {
-        for call in CALLS {
-            let name = call.name;
-            let gave = self.0.get(name).cloned().unwrap_or_default();
+        for (name, gave) in &self.0 {
             let all = self.of_call(name);
             let refused: Vec<_> = gave
                 .iter()

@@ -4,10 +4,9 @@
 
 use std::collections::BTreeSet;
 
-use crate::answers::{Answer, number_of, picked};
+use crate::answers::{Answer, call, picked};
 use crate::case::{Failure, Tally};
 use crate::random::Random;
-use desk::calls::CALLS;
 
 pub mod at;
 pub mod busy;
@@ -51,10 +50,7 @@ impl Run {
     pub fn tally(&self, random: &mut Random) -> Result<Tally, Failure> {
         let tally = (self.run)(random)?;
         let seen: BTreeSet<u8> = (1..=u8::MAX).filter(|n| tally.gave(*n) > 0).collect();
-        let said = self
-            .calls
-            .iter()
-            .flat_map(|call| CALLS[number_of(call)].refusals);
+        let said = self.calls.iter().flat_map(|name| call(name).refusals);
         let mut said: BTreeSet<u8> = said.copied().collect();
         if self.name == cadences::NAME {
             // Four billion entries would be 48 GB.

@@ -1,18 +1,19 @@
--- `replay::run` meets its contract. Assumes nothing.
+-- Made by tools/calls of the file in crates/replay_desk; not to be changed by hand.
+-- `replay_filmdesk::run` meets its contract. Assumes nothing.
 use Prim.Native.Nat.{_-_}
 use mathlib.Core.Path.{_≡_}
 use native.Mathlib.Omega.{arith}
 use lib.ListN.{length}
 use borrow.Author.Needs.{needs}
-use Rattle.replay.proofs.run.Statement.{statement}
-use Rattle.replay.proofs.run.Tie as tie
+use Rattle.replay_filmdesk.proofs.run.Statement.{statement}
+use Rattle.replay_filmdesk.proofs.run.Tie as tie
 
 abbrev Inv-loop : tie.InvT-loop
-Inv-loop buffer₀ held₀ state₀ store₀ compared₀ differ₀ nth₀ buffer held state store compared differ nth =
-    (65536 ≡ length buffer) × (256 ≡ length state) × (8192 ≡ length store) × (256 ≡ length compared) × (256 ≡ length differ)
+Inv-loop buffer₀ held₀ state₀ store₀ apart₀ nth₀ buffer held state store apart nth =
+    (65536 ≡ length buffer) × (256 ≡ length state) × (8192 ≡ length store)
 
 abbrev μ-loop : tie.MeasureT-loop
-μ-loop buffer₀ held₀ state₀ store₀ compared₀ differ₀ nth₀ buffer held state store compared differ nth =
+μ-loop buffer₀ held₀ state₀ store₀ apart₀ nth₀ buffer held state store apart nth =
     18446744073709551615 - nth
 
 nothing-requires : tie.Need-nothing-requires Inv-loop μ-loop
@@ -36,29 +37,17 @@ slice-aggregate-once-2 c = search needs
 slice-aggregate-once-3 : tie.Need-slice-aggregate-once-3 Inv-loop μ-loop
 slice-aggregate-once-3 c = search needs
 
-slice-aggregate-once-4 : tie.Need-slice-aggregate-once-4 Inv-loop μ-loop
-slice-aggregate-once-4 c = search needs
-
-slice-aggregate-once-5 : tie.Need-slice-aggregate-once-5 Inv-loop μ-loop
-slice-aggregate-once-5 c = search needs
-
 once-requires : tie.Need-once-requires Inv-loop μ-loop
 once-requires c κs = search needs
-
-slice-aggregate-tell-all : tie.Need-slice-aggregate-tell-all Inv-loop μ-loop
-slice-aggregate-tell-all c = search needs
-
-slice-aggregate-tell-all-2 : tie.Need-slice-aggregate-tell-all-2 Inv-loop μ-loop
-slice-aggregate-tell-all-2 c = search needs
-
-tell-all-requires : tie.Need-tell-all-requires Inv-loop μ-loop
-tell-all-requires c κs = search needs
 
 tell-end-requires : tie.Need-tell-end-requires Inv-loop μ-loop
 tell-end-requires c κs = search needs
 
 returns : tie.Need-returns Inv-loop μ-loop
 returns c = search needs
+
+wrapping-add-u64-requires : tie.Need-wrapping-add-u64-requires Inv-loop μ-loop
+wrapping-add-u64-requires c κs = search needs
 
 without-requires : tie.Need-without-requires Inv-loop μ-loop
 without-requires c κs = search needs
@@ -88,14 +77,10 @@ run-spec =
     slice-aggregate-once
     slice-aggregate-once-2
     slice-aggregate-once-3
-    slice-aggregate-once-4
-    slice-aggregate-once-5
     once-requires
-    slice-aggregate-tell-all
-    slice-aggregate-tell-all-2
-    tell-all-requires
     tell-end-requires
     returns
+    wrapping-add-u64-requires
     without-requires
     add-nth
     loop-less

@@ -1,15 +1,15 @@
-// Program `replay`: makes every call of a list of answers again, and prints how many were compared and
-// how many differ, a line for each of the desk's calls and one for all. The list is standard input, a
-// record after another; `answers` says what a record is, and host/differ/src/answers.rs made the list
-// from the original. A record that differs is told at once, and a list that is cut or names no call ends
-// the run with a line that says so. Records are counted from 1. The last line is the total of a list that
-// was read to its end; of a list that is empty or broken it says that nothing is shown. Assumes nothing.
+// Made by tools/calls of the file in crates/replay_desk; not to be changed by hand.
+// Program `replay_filmdesk`: makes every call of a list of answers again, and prints how many were compared and
+// how many differ. The list is standard input, a record after another; `answers` says what a record is, and
+// host/differ/src/answers.rs made the list from the original. A record that differs is told at once, and a
+// list that is cut or names no call ends the run with a line that says so. Records are counted from 1. The
+// last line is the count of a list that was read to its end; of a list that is empty or broken it says that
+// nothing is shown. Assumes nothing.
 mod calls;
 mod names;
 
 ghost use mathlib.Core.Path.{_≡_};
-ghost use Prim.Native.Nat.{_≤_, _<_, min};
-ghost use lib.ListN.{length};
+ghost use Prim.Native.Nat.{_≤_, min};
 use pages::Ask;
 use pages::Held;
 
@@ -120,34 +120,14 @@ fn tell_differs(nth: u64, call: usize) {
     names::say(b"\n");
 }
 
-fn tell_counts(compared: u64, differ: u64) {
-    names::say(b": ");
-    names::say_number(compared);
+// The last lines: how many records were compared and how many differ, and where a list was not read to its
+// end, or had no record, that nothing is shown. `nth` is the record that was not replayed, and `kind` what
+// was read of it.
+fn tell_end(nth: u64, apart: u64, kind: u8) {
+    names::say_number(std::num::wrapping_sub_u64(nth, 1));
     names::say(b" compared, ");
-    names::say_number(differ);
+    names::say_number(apart);
     names::say(b" differ\n");
-}
-
-fn tell_all(compared: &[u64], differ: &[u64])
-    requires { ⌜ (length (now compared) ≡ 256) × (length (now differ) ≡ 256) ⌝ }
-{
-    let mut all: u64 = 0;
-    let mut apart: u64 = 0;
-    let mut call: usize = 0;
-    while call < calls::COUNT {
-        calls::say_name(call);
-        tell_counts(compared[call], differ[call]);
-        all = std::num::wrapping_add_u64(all, compared[call]);
-        apart = std::num::wrapping_add_u64(apart, differ[call]);
-        call += 1;
-    }
-    names::say(b"total");
-    tell_counts(all, apart);
-}
-
-// The last line, where a list was not read to its end, or had no record. `nth` is the record that was not
-// replayed, and `kind` what was read of it.
-fn tell_end(nth: u64, kind: u8) {
     if kind != 0 {
         names::say(b"not passed: the list is broken at record ");
         names::say_number(nth);
@@ -161,34 +141,9 @@ fn tell_end(nth: u64, kind: u8) {
 
 // ---- the calls
 
-fn count(counts: &mut [u64], call: usize)
-    requires { ⌜ (length (now counts) ≡ 256) × (call < 256) ⌝ }
-{
-    counts[call] = std::num::wrapping_add_u64(counts[call], 1);
-}
-
-fn tally(compared: &mut [u64], differ: &mut [u64], call: usize, alike: bool)
-    requires { ⌜ (length (now compared) ≡ 256) × (length (now differ) ≡ 256) × (call < 256) ⌝ }
-{
-    count(compared, call);
-    if !alike {
-        count(differ, call);
-    }
-}
-
-// Makes the call of a record again. Answers what was read, as `Taken` has it; a record that names no call
-// counts as 3.
-fn once(
-    nth: u64,
-    taken: Taken,
-    buffer: &[u8],
-    state: &mut [u8],
-    store: &mut [u8],
-    compared: &mut [u64],
-    differ: &mut [u64],
-) -> u8
-    requires { ⌜ (length (now compared) ≡ 256) × (length (now differ) ≡ 256) ⌝ }
-{
+// Makes the call of a record again. Answers 1 where all of it came as expected and 4 where not, and else
+// what was read, as `Taken` has it; a record that names no call counts as 3.
+fn once(nth: u64, taken: Taken, buffer: &[u8], state: &mut [u8], store: &mut [u8]) -> u8 {
     if taken.kind != 1 {
         if taken.kind != 0 {
             tell_fault(nth, taken);
@@ -203,12 +158,11 @@ fn once(
         return 3;
     }
     let call = number as usize;
-    let alike = calls::replayed(call, record, state, store);
-    tally(compared, differ, call, alike);
-    if !alike {
-        tell_differs(nth, call);
+    if calls::replayed(call, record, state, store) {
+        return 1;
     }
-    1
+    tell_differs(nth, call);
+    4
 }
 
 // No list is as long as is counted up to here.
@@ -217,24 +171,17 @@ fn run() {
     let mut held = Held::nothing();
     let mut state = [165u8; 256];
     let mut store = [165u8; 8192];
-    let mut compared = [0u64; 256];
-    let mut differ = [0u64; 256];
+    let mut apart: u64 = 0;
     let mut nth: u64 = 1;
     while nth < u64::MAX {
         let taken = take(held, &mut buffer);
-        let kind = once(
-            nth,
-            taken,
-            &buffer,
-            &mut state,
-            &mut store,
-            &mut compared,
-            &mut differ,
-        );
-        if kind != 1 {
-            tell_all(&compared, &differ);
-            tell_end(nth, kind);
+        let kind = once(nth, taken, &buffer, &mut state, &mut store);
+        if (kind != 1) & (kind != 4) {
+            tell_end(nth, apart, kind);
             return;
+        }
+        if kind == 4 {
+            apart = std::num::wrapping_add_u64(apart, 1);
         }
         let read = taken.held;
         held = read.without(taken.size as usize);

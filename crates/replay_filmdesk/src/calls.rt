@@ -1,6 +1,24 @@
 // Made by tools/calls from the exports; not to be changed by hand.
-// The calls of crate `filmdesk` made again, each from a record of the list. Assumes nothing.
+// The calls of crate `filmdesk`, by their numbers in the list. Assumes nothing.
+use crate::names;
 use answers::lent;
+
+// How many there are.
+pub const COUNT: usize = 8;
+
+// A call's name at the desk without `desk_`, to standard output.
+pub fn say_name(call: usize) {
+    match call {
+        0 => names::say(b"busy"),
+        1 => names::say(b"cadences"),
+        2 => names::say(b"detector_new"),
+        3 => names::say(b"detector_reset"),
+        4 => names::say(b"detector_locked"),
+        5 => names::say(b"detector_predict"),
+        6 => names::say(b"detector_push_measured"),
+        _ => names::say(b"detector_push"),
+    }
+}
 
 fn grid_numbers(answer: &[u8], k: u8) -> filmdesk::GridNumbers {
     filmdesk::GridNumbers {
@@ -132,16 +150,16 @@ fn detector_push(answer: &[u8], state: &mut [u8], store: &mut [u8]) -> bool {
     there & gave
 }
 
-// Calls 11 to 18; any other counts as the last of these.
-pub(crate) fn replayed(call: usize, answer: &[u8], state: &mut [u8], store: &mut [u8]) -> bool {
+// Makes a call again, and says whether all of it came as expected. `state` and `store` are lent from record to record.
+pub fn replayed(call: usize, answer: &[u8], state: &mut [u8], store: &mut [u8]) -> bool {
     match call {
-        11 => busy(answer),
-        12 => cadences(answer),
-        13 => detector_new(answer, state),
-        14 => detector_reset(answer, state),
-        15 => detector_locked(answer, state),
-        16 => detector_predict(answer, state),
-        17 => detector_push_measured(answer, state),
+        0 => busy(answer),
+        1 => cadences(answer),
+        2 => detector_new(answer, state),
+        3 => detector_reset(answer, state),
+        4 => detector_locked(answer, state),
+        5 => detector_predict(answer, state),
+        6 => detector_push_measured(answer, state),
         _ => detector_push(answer, state, store),
     }
 }

@@ -1,6 +1,15 @@
 // Made by tools/calls from the exports; not to be changed by hand.
-// The calls of crate `picturedesk` made again, each from a record of the list. Assumes nothing.
+// The calls of crate `picturedesk`, by their numbers in the list. Assumes nothing.
+use crate::names;
 use answers::lent;
+
+// How many there are.
+pub const COUNT: usize = 1;
+
+// A call's name at the desk without `desk_`, to standard output.
+pub fn say_name(call: usize) {
+    names::say(b"picture")
+}
 
 fn conversion(answer: &[u8], k: u8) -> colour::Conversion {
     colour::Conversion {
@@ -77,7 +86,7 @@ fn picture(answer: &[u8]) -> bool {
     gave
 }
 
-// Calls 19 to 19; any other counts as the last of these.
-pub(crate) fn replayed(call: usize, answer: &[u8]) -> bool {
+// Makes a call again, and says whether all of it came as expected. `state` and `store` are lent from record to record.
+pub fn replayed(call: usize, answer: &[u8], state: &mut [u8], store: &mut [u8]) -> bool {
     picture(answer)
 }

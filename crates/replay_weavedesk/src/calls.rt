@@ -1,6 +1,24 @@
 // Made by tools/calls from the exports; not to be changed by hand.
-// The calls of crate `weavedesk` made again, each from a record of the list. Assumes nothing.
+// The calls of crate `weavedesk`, by their numbers in the list. Assumes nothing.
+use crate::names;
 use answers::lent;
+
+// How many there are.
+pub const COUNT: usize = 8;
+
+// A call's name at the desk without `desk_`, to standard output.
+pub fn say_name(call: usize) {
+    match call {
+        0 => names::say(b"weave"),
+        1 => names::say(b"line_number"),
+        2 => names::say(b"woven_line"),
+        3 => names::say(b"woven"),
+        4 => names::say(b"readback"),
+        5 => names::say(b"weaver_new"),
+        6 => names::say(b"weaver_clear"),
+        _ => names::say(b"weaver_push"),
+    }
+}
 
 fn lines_numbers(answer: &[u8], k: u8) -> weavedesk::LinesNumbers {
     weavedesk::LinesNumbers {
@@ -250,16 +268,16 @@ fn weaver_push(answer: &[u8], state: &mut [u8], store: &mut [u8]) -> bool {
     answers::whole(answer, 20, 7) & there & gave
 }
 
-// Calls 20 to 27; any other counts as the last of these.
-pub(crate) fn replayed(call: usize, answer: &[u8], state: &mut [u8], store: &mut [u8]) -> bool {
+// Makes a call again, and says whether all of it came as expected. `state` and `store` are lent from record to record.
+pub fn replayed(call: usize, answer: &[u8], state: &mut [u8], store: &mut [u8]) -> bool {
     match call {
-        20 => weave(answer),
-        21 => line_number(answer),
-        22 => woven_line(answer),
-        23 => woven(answer),
-        24 => readback(answer),
-        25 => weaver_new(answer, state),
-        26 => weaver_clear(answer, state),
+        0 => weave(answer),
+        1 => line_number(answer),
+        2 => woven_line(answer),
+        3 => woven(answer),
+        4 => readback(answer),
+        5 => weaver_new(answer, state),
+        6 => weaver_clear(answer, state),
         _ => weaver_push(answer, state, store),
     }
 }

@@ -1,6 +1,27 @@
 // Made by tools/calls from the exports; not to be changed by hand.
-// The calls of crate `desk` made again, each from a record of the list. Assumes nothing.
+// The calls of crate `desk`, by their numbers in the list. Assumes nothing.
+use crate::names;
 use answers::lent;
+
+// How many there are.
+pub const COUNT: usize = 11;
+
+// A call's name at the desk without `desk_`, to standard output.
+pub fn say_name(call: usize) {
+    match call {
+        0 => names::say(b"to_rgb"),
+        1 => names::say(b"quantise"),
+        2 => names::say(b"luma"),
+        3 => names::say(b"comb"),
+        4 => names::say(b"comb_rgba"),
+        5 => names::say(b"first_field"),
+        6 => names::say(b"edge"),
+        7 => names::say(b"sample"),
+        8 => names::say(b"plane"),
+        9 => names::say(b"code"),
+        _ => names::say(b"at"),
+    }
+}
 
 fn conversion(answer: &[u8], k: u8) -> colour::Conversion {
     colour::Conversion {
@@ -195,8 +216,8 @@ fn at(answer: &[u8]) -> bool {
         & answers::same_float(value, answers::number(answer, 8))
 }
 
-// Calls 0 to 10; any other counts as the last of these.
-pub(crate) fn replayed(call: usize, answer: &[u8]) -> bool {
+// Makes a call again, and says whether all of it came as expected. `state` and `store` are lent from record to record.
+pub fn replayed(call: usize, answer: &[u8], state: &mut [u8], store: &mut [u8]) -> bool {
     match call {
         0 => to_rgb(answer),
         1 => quantise(answer),
