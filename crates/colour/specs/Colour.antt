@@ -1,4 +1,4 @@
--- Y'CbCr to RGB, and a value as a byte (document 01, "Colour and comb": "`to_rgb` keeps the source's order of operations"; the source is
+-- Y'CbCr to RGB, and a value as a byte (docs/RULES.md, "Colour and comb": "`to_rgb` keeps the source's order of operations"; the source is
 -- colour.rs). Each step is one rounding of binary32, and its name is the source's. Assumes nothing.
 use Prim.Native.Nat.{ℕ}
 use mathlib.Core.Bool.{Bool, _&&_}

@@ -1,4 +1,4 @@
--- Comb (document 01, "Colour and comb"): "the sum of |2 * here - up - down| over inner rows, unshifted codes. For RGBA it reads green,
+-- Comb (docs/RULES.md, "Colour and comb"): "the sum of |2 * here - up - down| over inner rows, unshifted codes. For RGBA it reads green,
 -- byte 1 of each four." It is defined over a code function of column and row, so it holds of a frame that is nowhere in memory too.
 -- Assumes nothing.
 use Prim.Native.Nat.{ℕ, _+_, _-_, _*_}
