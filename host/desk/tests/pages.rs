@@ -7,7 +7,7 @@
 //!   every claim of the crates is linked in it;
 //! - what a comment cites of that page is the title of one of its sections.
 
-use std::collections::BTreeSet;
+use std::collections::{BTreeMap, BTreeSet};
 use std::fs;
 use std::path::{Path, PathBuf};
 
@@ -35,10 +35,11 @@ const RULES: &str = "docs/RULES.md";
 #[test]
 fn every_link_and_name_is_there() {
     let mut faults = Vec::new();
+    let mut declared = Declared::default();
     let pages = pages();
     assert!(pages.len() > 5, "README.md and the pages of docs/ are read");
     for page in &pages {
-        faults.extend(page_faults(page, &read(page)));
+        faults.extend(page_faults(page, &read(page), &mut declared));
     }
     assert!(faults.is_empty(), "{}", faults.join("\n"));
 }
@@ -56,7 +57,8 @@ fn every_cited_section_is_there() {
     for folder in ["crates", "host", "tools"] {
         for file in files_under(&root().join(folder)) {
             // A file that is no text cites nothing.
-            if let Ok(source) = fs::read_to_string(&file) {
+            let source = fs::read_to_string(&file).unwrap_or_default();
+            if source.contains(RULES) {
                 let titles = cited_in(&source);
                 cited += titles.len();
                 let wrong = titles.iter().filter(|title| !is_section(title));
@@ -186,7 +188,7 @@ fn without_blocks(text: &str) -> String {
 }
 
 /// All that is wrong with a page, by its place from the root.
-fn page_faults(page: &str, text: &str) -> Vec<String> {
+fn page_faults(page: &str, text: &str, declared: &mut Declared) -> Vec<String> {
     let mut faults = Vec::new();
     for link in links(text) {
         let target = &link.target;
@@ -206,13 +208,9 @@ fn page_faults(page: &str, text: &str) -> Vec<String> {
                 faults.push(format!("{page} links {target}, which is no heading there"));
             }
         }
-        let declares = match place.extension().and_then(|end| end.to_str()) {
-            Some("antt") => declared_in_logic as fn(&str) -> BTreeSet<&str>,
-            Some("rt") => declared_in_code,
-            _ => continue,
+        let Some(declared) = declared.by(&file) else {
+            continue;
         };
-        let source = read(&file);
-        let declared = declares(&source);
         for name in link.names() {
             // `Lock::push` is declared by its type and its own name.
             let types = name
@@ -266,8 +264,25 @@ fn pins(text: &str) -> impl Iterator<Item = &str> {
 
 // ---- What Rattle files declare
 
+/// The names that files declare, by their places from the root. Each is read once.
+#[derive(Default)]
+struct Declared(BTreeMap<String, BTreeSet<String>>);
+
+impl Declared {
+    /// None of a file that is not Rattle's.
+    fn by(&mut self, file: &str) -> Option<&BTreeSet<String>> {
+        let declared: fn(&str) -> BTreeSet<String> = match file.rsplit_once('.')?.1 {
+            "antt" => declared_in_logic,
+            "rt" => declared_in_code,
+            _ => return None,
+        };
+        let known = self.0.entry(file.to_owned());
+        Some(known.or_insert_with(|| declared(&read(file))))
+    }
+}
+
 /// Definitions, records, their fields, claims and constructors.
-fn declared_in_logic(text: &str) -> BTreeSet<&str> {
+fn declared_in_logic(text: &str) -> BTreeSet<String> {
     const KINDS: [&str; 5] = ["abbrev", "unfoldable", "pub", "record", "data"];
     let mut found = BTreeSet::new();
     let mut in_data = false;
@@ -285,14 +300,14 @@ fn declared_in_logic(text: &str) -> BTreeSet<&str> {
         // A constructor or a lemma has no word before its name.
         let bare = words.next() == Some(":") && (in_data || !inner);
         if kinds > 0 || bare {
-            found.insert(name);
+            found.insert(name.to_owned());
         }
     }
     found
 }
 
 /// Functions, structs, enums and constants.
-fn declared_in_code(text: &str) -> BTreeSet<&str> {
+fn declared_in_code(text: &str) -> BTreeSet<String> {
     const KINDS: [&str; 4] = ["fn", "struct", "enum", "const"];
     let mut found = BTreeSet::new();
     for line in text.lines().filter(|line| !is_remark(line)) {
@@ -301,7 +316,7 @@ fn declared_in_code(text: &str) -> BTreeSet<&str> {
         if kind.is_some_and(|kind| KINDS.contains(&kind)) {
             let rest = words.next().unwrap_or("");
             let name = rest.split(|c: char| !(c.is_alphanumeric() || c == '_'));
-            found.extend(name.take(1));
+            found.extend(name.take(1).map(str::to_owned));
         }
     }
     found
@@ -388,7 +403,9 @@ fn a_false_page_is_found() {
         [`taken`, `picture`](../crates/telecine/specs/History.antt), a function\n\
         [`Lock::push`](../crates/pulldown/src/lib.rt), a [folder](src), a [page](DIFFERENCES.md#what-was-compared),\n\
         a [place](#a-place-named) and at 12:30 a ![picture](pulldown.svg).\n";
-    assert_eq!(page_faults("docs/PAGE.md", GOOD), Vec::<String>::new());
+    let mut declared = Declared::default();
+    let mut faults = |page: &str| page_faults("docs/PAGE.md", page, &mut declared);
+    assert_eq!(faults(GOOD), Vec::<String>::new());
     let changes = [
         ("(src)", "(source)", "is not there"),
         ("pulldown.svg", "pulldowns.svg", "is not there"),
@@ -418,7 +435,7 @@ fn a_false_page_is_found() {
     for (right, wrong, wanted) in changes {
         let page = GOOD.replacen(right, wrong, 1);
         assert_ne!(page, GOOD, "{right}");
-        let found = page_faults("docs/PAGE.md", &page);
+        let found = faults(&page);
         assert!(
             found.iter().any(|fault| fault.contains(wanted)),
             "`{right}` became `{wrong}`, and no fault says `{wanted}`: {found:?}"
