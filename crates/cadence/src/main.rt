@@ -1,4 +1,4 @@
-// Program `cadence`: prints the listing of a reel file (document 01, "Reel file and listing"), from
+// Program `cadence`: prints the listing of a reel file (docs/RULES.md, "Reel file and listing"), from
 // standard input to standard output. A step of `listing` says what to do, and here it is done: a part of
 // the buffer is read into, or a part of the page written. What the pages then are is the claim
 // `ListsEveryInput` of `listing`. Assumes nothing.

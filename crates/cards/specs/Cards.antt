@@ -1,5 +1,5 @@
--- The bench cards of document 01 that are marked P, in its order: one table, `cards`, under one statement, `CardsHold`, which
--- proofs/Cards.antt proves. A card holds a number that the definitions of the crates give and the number that document 01 says. A test
+-- The bench cards of docs/RULES.md that are marked P, in its order: one table, `cards`, under one statement, `CardsHold`, which
+-- proofs/Cards.antt proves. A card holds a number that the definitions of the crates give and the number that docs/RULES.md says. A test
 -- counts as 1 where it holds and 0 where it does not; symbols and cadences have their numbers. Lists of frames are newest first. Assumes nothing.
 use Prim.Native.Nat.{ℕ, zero, suc, _+_, _*_, _%_}
 use mathlib.Core.Path.{_≡_}
@@ -108,7 +108,7 @@ cards =
     ∷ card (aheadOf 4) (cadenceNumber Whole)
     ∷ []
 
--- Of every card, the number that came is the one that document 01 says.
+-- Of every card, the number that came is the one that docs/RULES.md says.
 abbrev pub AllHold : List Card → Type 0
 AllHold [] = Unit {0}
 AllHold (c ∷ rest) = (c .came ≡ c .says) × AllHold rest

@@ -1,4 +1,4 @@
-// Program `cards`: runs the bench cards of document 01. Standard input is the list of what that document
+// Program `cards`: runs the bench cards of docs/RULES.md. Standard input is the list of what that page
 // says of each, a line `NAME: ANSWER` (crates/cards/stdin). Of each card a line is printed, `NAME: ok`, or
 // what came and the list's line in its place; at the end, how many were run and how many differ. Those
 // that are proved (specs/Cards.antt) are run too. Assumes nothing.

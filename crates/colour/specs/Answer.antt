@@ -1,4 +1,4 @@
--- What `to_rgb` gives back (document 01, "What the desk gets back": 8 where one of the nine numbers or of the three samples is outside its
+-- What `to_rgb` gives back (docs/RULES.md, "What the desk gets back": 8 where one of the nine numbers or of the three samples is outside its
 -- range or a NaN). Assumes nothing.
 use Prim.Native.Nat.{ℕ}
 use mathlib.Core.Bool.{Bool, _&&_}

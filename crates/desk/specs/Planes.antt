@@ -1,4 +1,4 @@
--- Planes by number (document 01, "Planes", "What the desk gets back"): the shape that five numbers name, which need not fit a `Shape` of the
+-- Planes by number (docs/RULES.md, "Planes", "What the desk gets back"): the shape that five numbers name, which need not fit a `Shape` of the
 -- code, and what the reads of one sample give. Assumes nothing.
 use Prim.Native.Nat.{ℕ}
 use mathlib.Core.Bool.{Bool, cond}

@@ -1,4 +1,4 @@
--- Measured entries as a reel file lays them out, and their cadences from a fresh detector (document 01, "Reel file and listing", "Fields and
+-- Measured entries as a reel file lays them out, and their cadences from a fresh detector (docs/RULES.md, "Reel file and listing", "Fields and
 -- readback"). Assumes nothing.
 use Prim.Native.Nat.{ℕ, zero, suc, _+_, _*_, _/_, _%_}
 use mathlib.Core.Bool.{Bool, true, cond, _&&_}

@@ -1,4 +1,4 @@
-// Measured entries as a reel file lays them out (document 01, "Reel file and listing"), and their
+// Measured entries as a reel file lays them out (docs/RULES.md, "Reel file and listing"), and their
 // cadences from a fresh detector. The desk and the reel's reader stand on the same entry.
 // Assumes nothing.
 ghost use mathlib.Core.Path.{_≡_};

@@ -1,4 +1,4 @@
--- Fields of a frame (document 01, "Port order", 1: `Parity`, `first_field`; the source is field.rs), and the numbers that stand for fields and cadences. Assumes nothing.
+-- Fields of a frame (docs/RULES.md, "Port order", 1: `Parity`, `first_field`; the source is field.rs), and the numbers that stand for fields and cadences. Assumes nothing.
 use Prim.Native.Nat.{ℕ}
 use mathlib.Core.Bool.{Bool, true, false, cond}
 use lib.Dec.{eqb}
@@ -22,7 +22,7 @@ otherOf parity.Bottom = parity.Top
 abbrev pub parityNamed : ℕ → Parity
 parityNamed number = cond (eqb number 0) parity.Top parity.Bottom
 
--- the byte that stands for a cadence (document 01, "Fields and readback")
+-- the byte that stands for a cadence (docs/RULES.md, "Fields and readback")
 abbrev pub cadenceNumber : Cadence → ℕ
 cadenceNumber cadence.None = 0
 cadenceNumber cadence.Whole = 1

@@ -1,4 +1,4 @@
--- A whole plane of samples (document 01, "Rows a field lacks" and "What the desk gets back"; the source is `plane` in filter.rs): its number,
+-- A whole plane of samples (docs/RULES.md, "Rows a field lacks" and "What the desk gets back"; the source is `plane` in filter.rs): its number,
 -- and what the lent list holds afterwards. Assumes nothing.
 use Prim.Native.Nat.{ℕ, _*_}
 use mathlib.Core.Bool.{Bool, _&&_}

@@ -1,4 +1,4 @@
--- Counts and the detector by number (document 01, "Blocks and symbols", "What the desk gets back"). A state shorter than 96 bytes is a lent
+-- Counts and the detector by number (docs/RULES.md, "Blocks and symbols", "What the desk gets back"). A state shorter than 96 bytes is a lent
 -- input that is too short, 6; where it is only written, an output, 7. Assumes nothing.
 use Prim.Native.Nat.{ℕ, _*_}
 use mathlib.Core.Bool.{Bool, cond, _&&_}

@@ -1,5 +1,5 @@
 // What the capture desk's Rust host calls of the detector and of block counts, beside crate `desk` and
-// in its manner: numbers and byte slices, the answer a number of document 01, "What the desk gets
+// in its manner: numbers and byte slices, the answer a number of docs/RULES.md, "What the desk gets
 // back", a value to a lent place, which a refusal leaves as it was. Between calls the host keeps the
 // detector in 96 bytes that it lends. Assumes nothing.
 use block::Counted;

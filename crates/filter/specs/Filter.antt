@@ -1,4 +1,4 @@
--- The rows a field lacks (document 01, "Rows a field lacks"; the source is filter.rs). Each float step is one rounding of binary32, in the
+-- The rows a field lacks (docs/RULES.md, "Rows a field lacks"; the source is filter.rs). Each float step is one rounding of binary32, in the
 -- source's order. A plane is known here only as a sampler, a value at two coordinates; which planes those are, and what lies past an edge,
 -- is the sampler's own affair. Assumes nothing.
 use mathlib.Core.Bool.{cond}

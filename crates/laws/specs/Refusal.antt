@@ -1,4 +1,4 @@
--- The number that a call gives back (document 01, "What the desk gets back"): 0 for done, and "if several apply, the lowest is given".
+-- The number that a call gives back (docs/RULES.md, "What the desk gets back"): 0 for done, and of several that apply the lowest.
 -- A call lists its tests, each under the number that it guards, in rising order. A test is true where its number does not apply.
 -- What `lowest` says of such a list is the record `Says`, and every list in rising order has it (Claims). Assumes nothing.
 use Prim.Native.Nat.{ℕ, _≤_, _<_}

@@ -45,6 +45,6 @@ CameByRead =
     (l : Lister) (old buffer store page : List ℕ) (n : ℕ) →
     programOf (cameLister l (length buffer) n) buffer store page ≡ cameTo (programOf l old store page) buffer n
 
--- Document 01's example.
+-- The example of docs/RULES.md.
 abbrev pub ListsExample : Type 0
 ListsExample = listingOf exampleFile ≡ exampleListing

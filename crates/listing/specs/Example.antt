@@ -1,4 +1,4 @@
--- Document 01's example of a reel file and its listing ("Reel file and listing"). Assumes nothing.
+-- The example of a reel file and of its listing (docs/RULES.md, "Reel file and listing"). Assumes nothing.
 use Prim.Native.Nat.{ℕ}
 use mathlib.Core.List.{List, [], _∷_, _++_}
 

@@ -1,4 +1,4 @@
-// What a reel file says, as text (document 01, "Reel file and listing"), and the program `cadence` a
+// What a reel file says, as text (docs/RULES.md, "Reel file and listing"), and the program `cadence` a
 // step at a time. Assumes nothing.
 ghost use mathlib.Core.Path.{_≡_};
 ghost use mathlib.Core.List.{_++_};

@@ -1,5 +1,5 @@
 // What the capture desk's Rust host calls of pictures, beside crate `desk` and in its manner: numbers
-// and byte slices, the answer a number of document 01, "What the desk gets back". Assumes nothing.
+// and byte slices, the answer a number of docs/RULES.md, "What the desk gets back". Assumes nothing.
 use desk::planes;
 use desk::planes::PlaneNumbers;
 use plane::refusal;

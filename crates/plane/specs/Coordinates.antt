@@ -1,4 +1,4 @@
--- Signed coordinates (document 01, "Planes" and "Rows a field lacks"), and how the code holds one: from -65,544 on, so that it is a
+-- Signed coordinates (docs/RULES.md, "Planes" and "Rows a field lacks"), and how the code holds one: from -65,544 on, so that it is a
 -- natural number. The bias is even and leaves room for every offset that a filter adds. Assumes nothing.
 use Prim.Native.Nat.{ℕ, suc, _-_, _%_, min}
 use mathlib.Core.Bool.{Bool, cond, _&&_}

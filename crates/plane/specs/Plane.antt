@@ -1,4 +1,4 @@
--- A plane of samples (document 01, "Planes"): its bounds, where a sample stands, its code and its value.
+-- A plane of samples (docs/RULES.md, "Planes"): its bounds, where a sample stands, its code and its value.
 -- Each definition holds of every shape, within the bounds or not; a read past the end gives 0. Assumes nothing.
 use Prim.Native.Nat.{ℕ, _+_, _-_, _*_, _/_, _^_, min, max}
 use mathlib.Core.Bool.{Bool, true, false, cond, _&&_}

@@ -1,4 +1,4 @@
-// The numbers that a call gives back, each with document 01's words ("What the desk gets back"), and
+// The numbers that a call gives back, each with the words of docs/RULES.md ("What the desk gets back"), and
 // the lowest of those that apply. Assumes nothing.
 ghost use mathlib.Core.Path.{_≡_};
 ghost use mathlib.Core.List.{[], _∷_};

@@ -1,4 +1,4 @@
--- What is claimed of runs and of the lock (document 01, "Runs, phases, cadence", "What the desk gets back", and demand 3).
+-- What is claimed of runs and of the lock (docs/RULES.md, "Runs, phases, cadence", "What the desk gets back", and demand 3).
 -- proofs/Claims.antt proves each claim under its name in small letters. Lists are newest first. A reset gives the fresh lock, so a
 -- history starts fresh here. Assumes nothing.
 use Prim.Native.Nat.{ℕ, _+_, min, _<_, _≤_}

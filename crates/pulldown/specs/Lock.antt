@@ -1,4 +1,4 @@
--- What the functions of `Lock` give, on every value that the struct can hold (document 01, "Runs, phases, cadence", "What the desk gets
+-- What the functions of `Lock` give, on every value that the struct can hold (docs/RULES.md, "Runs, phases, cadence", "What the desk gets
 -- back", 9 and 10, and "Forms that must change": the ring). Numbers that no history reaches are brought into range here as in the code:
 -- places are taken modulo 15, numbers in the ring stop at 3, a phase from 5 on is none. Claims has what comes of it after a history.
 -- Assumes nothing.

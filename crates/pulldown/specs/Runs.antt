@@ -1,4 +1,4 @@
--- Runs, phases, lock frames and cadences (document 01, "Runs, phases, cadence", and demand 3), from the frames alone. Lists of frames,
+-- Runs, phases, lock frames and cadences (docs/RULES.md, "Runs, phases, cadence", and demand 3), from the frames alone. Lists of frames,
 -- and of what was seen of frames, are newest first. Phases are 0 to 4; 5 stands for none. Assumes nothing.
 use Prim.Native.Nat.{ℕ, suc, _+_, _-_, _%_, _<_, _≤_}
 use mathlib.Core.Path.{_≡_}

@@ -1,4 +1,4 @@
--- Symbols (document 01, "Blocks and symbols"): what the busy blocks of a frame's two fields say of it. `first` and `second` are the busy
+-- Symbols (docs/RULES.md, "Blocks and symbols"): what the busy blocks of a frame's two fields say of it. `first` and `second` are the busy
 -- blocks of the leading and the trailing field, `blocks` is the leading field's total. Assumes nothing.
 use Prim.Native.Nat.{ℕ, _/_, max}
 use mathlib.Core.Bool.{Bool, cond, _&&_}

@@ -1,4 +1,4 @@
--- The table of document 01, "Runs, phases, cadence": what is expected of a frame, and its cadence, by its step. The last argument of
+-- The table of docs/RULES.md, "Runs, phases, cadence": what is expected of a frame, and its cadence, by its step. The last argument of
 -- `getD` is the entry of steps from 5 on, which no frame has. Assumes nothing.
 use Prim.Native.Nat.{ℕ}
 use mathlib.Core.List.{[], _∷_}

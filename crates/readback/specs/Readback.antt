@@ -1,4 +1,4 @@
--- A frame read back from a device (document 01, "Fields and readback"; the source is `frame_of_readback` in weave.rs): its number, and the three
+-- A frame read back from a device (docs/RULES.md, "Fields and readback"; the source is `frame_of_readback` in weave.rs): its number, and the three
 -- planes that are copied out. Assumes nothing.
 use Prim.Native.Nat.{ℕ, _*_, _/_, _%_}
 use mathlib.Core.Bool.{Bool, cond, _&&_}

@@ -24,7 +24,7 @@ ReadsEveryFile = (bytes : List ℕ) → Ends startOf (replicate 16384 0) bytes (
 abbrev pub Bytes : List ℕ → Type 0
 Bytes bytes = (i : ℕ) → getD bytes i 0 < 256
 
--- the numbers of document 01's list
+-- the numbers of the list of docs/RULES.md
 abbrev pub known : Said → Bool
 known Quiet = true
 known (Frame n c locked) = true

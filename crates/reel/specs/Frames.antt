@@ -1,4 +1,4 @@
--- The frames of a reel file by their places in it (document 01, "Reel file and listing"): first the measured entries, then the pictures.
+-- The frames of a reel file by their places in it (docs/RULES.md, "Reel file and listing"): first the measured entries, then the pictures.
 -- Nothing is judged here. Of a file that is refused, the frames before that place are meant. Assumes nothing.
 use Prim.Native.Nat.{ℕ, zero, suc, _+_, _-_, _*_}
 use mathlib.Core.Bool.{cond}

@@ -1,4 +1,4 @@
--- What a reel file says (document 01, "Reel file and listing"): its frames in order, and how it ends, from the bytes alone, section after
+-- What a reel file says (docs/RULES.md, "Reel file and listing"): its frames in order, and how it ends, from the bytes alone, section after
 -- section. Any list of bytes whatever says something. Assumes nothing.
 use Prim.Native.Nat.{ℕ, zero, suc, _+_, _*_, min}
 use mathlib.Core.Bool.{Bool, true, false, cond, _||_}

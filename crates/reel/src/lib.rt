@@ -1,4 +1,4 @@
-// The reel file (document 01, "Reel file and listing"), read a unit at a time: each count, the shape,
+// The reel file (docs/RULES.md, "Reel file and listing"), read a unit at a time: each count, the shape,
 // each entry and picture, and the end. A unit says at most one thing, and nothing is written here.
 // Assumes nothing.
 ghost use mathlib.Core.Path.{_≡_};

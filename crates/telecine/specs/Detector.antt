@@ -1,4 +1,4 @@
--- What each call of the detector gives, on every value that its struct can hold (document 01, "Blocks and symbols", "What the desk gets
+-- What each call of the detector gives, on every value that its struct can hold (docs/RULES.md, "Blocks and symbols", "What the desk gets
 -- back", 4, 6, 7 and 9, and "Forms that must change": the store). `locked` and `predict` are those of the lock (crate `pulldown`). Claims
 -- has what comes of it over several calls. Assumes nothing.
 use Prim.Native.Nat.{ℕ, _*_}

@@ -1,4 +1,4 @@
--- What it means that nothing else would satisfy a contract (document 01, "How tight the statements are"). The very contract is meant: for a
+-- What it means that nothing else would satisfy a contract (docs/RULES.md, "How tight the statements are"). The very contract is meant: for a
 -- function, `meets` is its `Post`, which is its `ensures` read as a plain type. Assumes nothing.
 use Prim.Native.Nat.{ℕ}
 use mathlib.Core.Path.{_≡_}

@@ -103,7 +103,7 @@ Gives none l o = NoPicture l o
 Gives (waits first) l o = Picture l first o
 
 -- Take any calls of `new`, `push` and `clear` after a `new`, refused ones among them, state and store lent back as they were left. The pictures and
--- times are exactly those of the pairs that the paper names, of the fields that the host gave.
+-- times are exactly those of the pairs that the rules name, of the fields that the host gave.
 abbrev pub PairsWoven : Type 0
 PairsWoven =
     (state store : List ℕ) (o : Offer) (earlier : List Call) → 56 ≤ length state → pushNo (after state store earlier) o ≡ 0

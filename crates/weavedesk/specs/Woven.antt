@@ -1,4 +1,4 @@
--- Weaving and readback by number (document 01, "Fields and readback", "What the desk gets back"). Numbers are meant as the host gives them, however
+-- Weaving and readback by number (docs/RULES.md, "Fields and readback", "What the desk gets back"). Numbers are meant as the host gives them, however
 -- large they are. Assumes nothing.
 use Prim.Native.Nat.{ℕ}
 use mathlib.Core.Bool.{Bool, true, false, not}

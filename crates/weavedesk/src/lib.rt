@@ -1,5 +1,5 @@
 // What the capture desk's Rust host calls of weaving and readback, beside crate `desk` and in its
-// manner: numbers and byte slices, the answer a number of document 01, "What the desk gets back", a
+// manner: numbers and byte slices, the answer a number of docs/RULES.md, "What the desk gets back", a
 // value to a lent place, which a refusal leaves as it was. Numbers are wider than a shape's own, so
 // that none can wrap into the bounds. Between calls the host keeps the weaver in 56 bytes that it
 // lends. Assumes nothing.

@@ -74,7 +74,7 @@ abbrev pub Gives : Waiting → State → Sent → Type 0
 Gives none state f = NoPicture state f
 Gives (waits first) state f = Picture state first f
 
--- Over any calls, refused ones among them, the pictures are exactly the weaves of the pairs that the paper names.
+-- Over any calls, refused ones among them, the pictures are exactly the weaves of the pairs that the rules name.
 abbrev pub PairsWoven : Type 0
 PairsWoven =
     (store : List ℕ) (f : Sent) (earlier : List Call) → numberIn (after store earlier) f ≡ 0

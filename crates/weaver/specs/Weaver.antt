@@ -1,4 +1,4 @@
--- The field that waits for its mate (document 01, "Fields and readback", "Forms that must change"; the source is `Weaver` in weave.rs): what each
+-- The field that waits for its mate (docs/RULES.md, "Fields and readback", "Forms that must change"; the source is `Weaver` in weave.rs): what each
 -- call gives, on every value that the struct can hold. Assumes nothing.
 use Prim.Native.Nat.{ℕ, _+_, _*_}
 use mathlib.Core.Bool.{Bool, true, false, cond, not, _&&_}

@@ -1,5 +1,7 @@
-//! Holds docs/ANSWER.md to the crates: every mark leads to a note and every
-//! note has a mark, and what a note names stands in the file that it names.
+//! Holds docs/ANSWER.md to the crates: every mark shows the number of the note
+//! that it leads to, every note has a mark, and what a note rests on is in the
+//! crates as the kind of thing that the note says it is. That links lead
+//! somewhere tests/pages.rs sees.
 //!
 //! A mark is `[¹](#note-1)`, anywhere before `## Notes`. A note is `### Note 1`
 //! and a list: what the promise rests on, a line each, and one line that says
@@ -15,7 +17,7 @@ use std::fs;
 use std::path::{Path, PathBuf};
 
 #[test]
-fn every_mark_has_a_note_whose_names_stand_in_its_files() {
+fn every_note_has_a_mark_and_rests_on_what_is_there() {
     let root = Path::new(env!("CARGO_MANIFEST_DIR")).join("../..");
     let page = fs::read_to_string(root.join("docs/ANSWER.md")).expect("docs/ANSWER.md is there");
     let faults = faults(&page, &root);
@@ -32,11 +34,6 @@ fn faults(page: &str, root: &Path) -> Vec<String> {
     if marks.is_empty() {
         faults.push("has no mark".to_owned());
     }
-    for mark in &marks {
-        if !notes.contains_key(mark) {
-            faults.push(format!("mark {mark} has no note"));
-        }
-    }
     for (number, lines) in &notes {
         if !marks.contains(number) {
             faults.push(format!("note {number} has no mark"));
@@ -48,15 +45,8 @@ fn faults(page: &str, root: &Path) -> Vec<String> {
                 .map(|fault| format!("note {number}: {fault}")),
         );
     }
-    let pictures: Vec<_> = text.split("![").skip(1).collect();
-    if pictures.is_empty() {
+    if !text.contains("![") {
         faults.push("has no picture".to_owned());
-    }
-    for after in pictures {
-        let picture = between(after, "](", ")");
-        if !picture.is_some_and(|picture| root.join("docs").join(picture).is_file()) {
-            faults.push(format!("its picture {picture:?} is missing"));
-        }
     }
     faults
 }
@@ -228,7 +218,6 @@ fn every_fault_is_found() {
     let changes = [
         ("## Notes", "## Note"),
         ("[¹](#note-1)", ""),
-        ("[¹](#note-1)", "[¹](#note-1)[²](#note-2)"),
         ("[¹](#note-1)", "[²](#note-1)"),
         ("### Note 1", "### Note one"),
         (
@@ -250,12 +239,7 @@ fn every_fault_is_found() {
         ("Contract of `weave`", "Contract of `weave_plane`"),
         ("Definition `wovenPlane`", "Definition `wovenPlan`"),
         ("(DIFFERENCES.md)", "(DIFFERENCE.md)"),
-        ("(pulldown.svg)", "(pulldowns.svg)"),
         ("![Woven](pulldown.svg)", ""),
-        (
-            "![Woven](pulldown.svg)",
-            "![Woven](pulldown.svg)\n\n![Cut](quiet-cuts.svg)",
-        ),
         ("- Does not cover: the deck.\n", ""),
     ];
     for (right, wrong) in changes {

@@ -170,13 +170,13 @@ const BECOMES: [Cadence; 5] = [
 /// own, the first being 1.
 pub const LOCKS_AT: [usize; 5] = [11, 10, 9, 13, 12];
 
-/// "Eleven stills after a lock on a moved frame keep it; the twelfth gives None."
+/// The card: so many stills in a row end a lock, and one fewer does not.
 const STILLS: usize = 12;
 
 /// The frames that a lock looks back upon.
 const WINDOW: usize = 15;
 
-/// "Moving = max(blocks/128, 4)", of the 45 by 30 blocks of a field of 720 by
+/// Moving is max(blocks/128, 4), of the 45 by 30 blocks of a field of 720 by
 /// 240: a frame with fewer busy blocks in both fields is still.
 const MOVING: u64 = 10;
 

@@ -31,15 +31,15 @@ pub fn row(shape: PlaneNumbers) -> u64 {
     u64::from(shape.width) * components(shape.layout) * bytes_a_sample
 }
 
-/// "A plane needs (height - 1) times stride plus one row." Of any numbers too;
-/// what is too large for the answer is as large as can be.
+/// A stride for every row but the last, and for that one its bytes. Of any
+/// numbers too; what is too large for the answer is as large as can be.
 pub fn needed(shape: PlaneNumbers) -> u64 {
     let rows_before = u64::from(shape.height).saturating_sub(1);
     (rows_before * u64::from(shape.stride)).saturating_add(row(shape))
 }
 
-/// "Width 1 to 8,192 samples, height 1 to 4,352, depth 8 to 16, stride at most
-/// 65,536 bytes and no less than a row."
+/// 1 to 8,192 samples wide, 1 to 4,352 rows high, 8 to 16 bits deep, and a
+/// stride from a row's bytes to 65,536.
 pub fn in_bounds(shape: PlaneNumbers) -> bool {
     (1..=8192).contains(&shape.width)
         && (1..=4352).contains(&shape.height)
@@ -58,14 +58,13 @@ fn read(shape: PlaneNumbers, length: usize, coordinate_outside: bool) -> u8 {
     ])
 }
 
-/// "Coordinates -65,536 to 65,536 are taken."
+/// It clamps, and takes coordinates from -65,536 to 65,536.
 pub fn at(shape: PlaneNumbers, length: usize, x: i32, y: i32) -> u8 {
     let taken = -65_536..=65_536;
     read(shape, length, !taken.contains(&x) || !taken.contains(&y))
 }
 
-/// "`code` takes only coordinates inside the plane", as large as it is said to
-/// be.
+/// It takes a place inside the plane, as large as that is said to be.
 pub fn code(shape: PlaneNumbers, length: usize, x: i32, y: i32) -> u8 {
     let inside = |coordinate: i32, size: u32| (0..i64::from(size)).contains(&i64::from(coordinate));
     let outside = !inside(x, shape.width) || !inside(y, shape.height);
@@ -80,8 +79,8 @@ pub fn edge(shape: PlaneNumbers, length: usize, x: i32, y: i32) -> u8 {
 /// A shape and the bytes that are lent for it.
 pub type Lent = (PlaneNumbers, usize);
 
-/// What holds of the planes before, now and after: "The three planes [...] must
-/// agree in width, height and depth".
+/// What holds of the planes before, now and after: they agree in width, height
+/// and depth.
 fn three(planes: [Lent; 3]) -> [(u8, bool); 4] {
     let size = |(shape, _): Lent| (shape.width, shape.height, shape.depth);
     [
@@ -100,8 +99,7 @@ fn three(planes: [Lent; 3]) -> [(u8, bool); 4] {
     ]
 }
 
-/// "The quality is one of Weave, Bob, Yadif, Bwdif; `first` is 0 or 1, `mate` 0,
-/// 1 or 2 (none)."
+/// There are four qualities; `first` is 0 or 1, and `mate` 0, 1, or 2 for none.
 pub fn sample(quality: u8, planes: [Lent; 3], first: u32, mate: u32, x: i32, y: i32) -> u8 {
     let taken = -65_536..=65_536;
     let [code, shape, size, length] = three(planes);
@@ -120,8 +118,8 @@ pub fn floats(shape: PlaneNumbers) -> u64 {
     u64::from(shape.width) * u64::from(shape.height)
 }
 
-/// As of `sample`, without a mate; and "a lent output or store is too short for
-/// what the call writes".
+/// As of `sample`, without a mate; and the output may be too short for what is
+/// written.
 pub fn plane(quality: u8, first: u8, planes: [Lent; 3], out: usize) -> u8 {
     let [code, shape, size, length] = three(planes);
     lowest(&[
@@ -134,8 +132,8 @@ pub fn plane(quality: u8, first: u8, planes: [Lent; 3], out: usize) -> u8 {
     ])
 }
 
-/// "Each of the nine numbers is within -16..16; `kr` and `kb` lie in 0..0.4375."
-/// No NaN lies anywhere; -0.0 is 0.
+/// All nine lie in -16..16, and `kr` and `kb` in 0..0.4375. No NaN lies
+/// anywhere; -0.0 is 0.
 fn nine_within(conversion: Conversion) -> bool {
     let Conversion {
         luma_offset,
@@ -163,7 +161,7 @@ fn nine_within(conversion: Conversion) -> bool {
         && [kr, kb].iter().all(|k| (0.0..=0.4375).contains(k))
 }
 
-/// "The three samples lie in 0..256."
+/// The nine numbers, and three samples in 0..256.
 pub fn to_rgb(conversion: Conversion, samples: [f32; 3]) -> u8 {
     let within =
         nine_within(conversion) && samples.iter().all(|sample| (0.0..=256.0).contains(sample));

@@ -17,8 +17,8 @@ pub mod es {
         Bottom,
     }
 
-    /// The colour tags. Ours; "left behind" by the port order of docs/RULES.md, and
-    /// here only so that `colour.rs` compiles.
+    /// The colour tags. Ours; they are not carried over (docs/RULES.md, "Port
+    /// order"), and here only so that `colour.rs` compiles.
     #[derive(Debug, Clone, Copy, PartialEq, Eq, Default)]
     pub struct Colour {
         pub primaries: u8,
@@ -61,11 +61,12 @@ pub mod video {
     }
 
     impl Plane {
-        /// The bytes of row `y`. Ours; "Row y starts at y times stride", and
-        /// "A plane needs (height - 1) times stride plus one row", so the last
-        /// row may end before its stride does. A row past the end is empty,
-        /// which the original reads as zeros. Inlined, as it would be in one crate
-        /// with its callers, so that no time is lost that the original did not lose.
+        /// The bytes of row `y`. Ours; it starts `y` strides into the plane, and
+        /// the last row may end before its stride does, as no plane needs more
+        /// (docs/RULES.md, "What the desk gets back"). A row past the end is
+        /// empty, which the original reads as zeros. Inlined, as it would be in
+        /// one crate with its callers, so that no time is lost that the original
+        /// did not lose.
         #[inline]
         pub fn row(&self, y: usize) -> &[u8] {
             let tail = y

@@ -14,8 +14,7 @@ pub mod filter;
 #[path = "../../../docs/src/core/src/output/video/telecine.rs"]
 pub mod telecine;
 
-/// The quality. Ours; docs/RULES.md, "Rows a field lacks": "one of Weave, Bob,
-/// Yadif, Bwdif".
+/// The quality, one of four. Ours; docs/RULES.md, "Rows a field lacks".
 #[derive(Debug, Clone, Copy, PartialEq, Eq, Default)]
 pub enum Deinterlace {
     #[default]

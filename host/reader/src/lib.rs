@@ -15,17 +15,17 @@ pub mod reel;
 #[derive(Debug, Clone, Copy, PartialEq, Eq)]
 struct Fault(u8);
 
-/// "3 for a wrong count, parity or present number, pictures without a shape,
-/// or bytes after the end".
+/// A count, parity or present number cannot be, there are pictures and no shape,
+/// or there are bytes behind the end.
 const WRONG: Fault = Fault(3);
-/// "4 for a bad shape".
+/// A shape is out of bounds.
 const SHAPE: Fault = Fault(4);
-/// "6 for a file cut short".
+/// The file ends too soon.
 const SHORT: Fault = Fault(6);
-/// "7, once a picture count above 0 is read, if a picture is too large."
+/// Pictures are too large, told once there are any.
 const LARGE: Fault = Fault(7);
 
-/// "A picture is at most 16,384 bytes."
+/// The largest picture.
 const MOST_BYTES: usize = 16_384;
 
 /// What `cadence` prints of a file with these bytes.
@@ -49,7 +49,7 @@ impl<'a> Rest<'a> {
         Ok(bytes)
     }
 
-    /// "Numbers are 16 bits, low byte first."
+    /// Numbers have two bytes, and the low one comes first.
     fn numbers<const COUNT: usize>(&mut self) -> Result<[u16; COUNT], Fault> {
         let bytes = self.bytes(2 * COUNT)?;
         let mut numbers = [0; COUNT];
@@ -97,7 +97,7 @@ impl Shape {
         })
     }
 
-    /// "Pictures of stride * height bytes".
+    /// How many a picture has.
     fn bytes(&self) -> usize {
         usize::from(self.stride) * usize::from(self.height)
     }
@@ -149,7 +149,7 @@ struct Listing {
 }
 
 impl Listing {
-    /// Reads the three sections in turn, "each after its count".
+    /// Reads the three sections in turn, each behind its count.
     fn read(&mut self, rest: &mut Rest<'_>) -> Result<(), Fault> {
         let shape = match rest.count()? {
             0 => None,
@@ -178,8 +178,8 @@ impl Listing {
         }
     }
 
-    /// "An entry is parity (0 top), present (0 or 1), then busy and total of the
-    /// leading field, then of the trailing; absent entries' numbers are ignored."
+    /// Parity, 0 for top; whether it is present; busy and all blocks of the leading
+    /// field, then of the trailing one. Of an absent entry these mean nothing.
     fn entry(&mut self, numbers: [u16; 6]) -> Result<(), Fault> {
         let [parity, present, busy, total, busy_after, total_after] = numbers;
         let leading = parity_named(parity)?;
@@ -194,7 +194,7 @@ impl Listing {
         Ok(())
     }
 
-    /// "A line per frame: number, cadence, lock (0/1)".
+    /// A frame's line: its number, its cadence, and whether there is a lock.
     fn frame(&mut self, cadence: Cadence) {
         let (name, total) = match cadence {
             Cadence::Whole => ("whole", &mut self.whole),

@@ -51,9 +51,8 @@ impl Reel {
         bytes
     }
 
-    /// The example of docs/RULES.md: "shape 0; 13 entries, all top, totals 1350;
-    /// pictures 0. Entry 0 absent; 1, 6, 11, 12 busy 0 and 40; 3, 8 busy 40 and
-    /// 0; others 40 and 40."
+    /// The example of docs/RULES.md: thirteen measured entries, of which the first
+    /// is absent, and neither a shape nor pictures.
     pub fn example() -> Self {
         let entry = |at| {
             let (leading, trailing) = match at {

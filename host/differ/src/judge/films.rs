@@ -4,9 +4,8 @@ use desk::calls::PlaneNumbers;
 
 use super::{Lent, floats, in_bounds, lowest, needed};
 
-/// "Counts are [...] for each field against the same parity of the kept frame",
-/// which is kept in "width times height bytes". There is no layout: the shape is
-/// planar.
+/// A field is counted against the field of that parity in the kept frame, which
+/// has a byte for each of its samples. There is no layout: the shape is planar.
 pub fn busy(shape: PlaneNumbers, length: usize, store: usize, parity: u8) -> u8 {
     lowest(&[
         (3, parity > 1),
@@ -19,10 +18,9 @@ pub fn busy(shape: PlaneNumbers, length: usize, store: usize, parity: u8) -> u8 
 /// Bytes of a measured entry: six numbers of 16 bits.
 pub const ENTRY: usize = 12;
 
-/// "An entry is parity (0 top), present (0 or 1), then [...]": 3 for another
-/// number in a whole entry, 6 for bytes that end inside an entry, 7 for fewer
-/// bytes of output than entries. No run can lend so many entries that 9 is
-/// given: they would be 48,000,000,012 bytes.
+/// 3 for a parity or a present number above 1 in a whole entry, 6 for bytes that
+/// end inside an entry, 7 for fewer bytes of output than entries. No run can lend
+/// so many entries that 9 is given: they would be 48,000,000,012 bytes.
 pub fn cadences(entries: &[u8], out: usize) -> u8 {
     let number = |bytes: &[u8], at: usize| u16::from_le_bytes([bytes[at], bytes[at + 1]]);
     let unnamed = |entry: &[u8]| number(entry, 0) > 1 || number(entry, 2) > 1;
@@ -62,7 +60,7 @@ pub fn detector_push_measured(state: usize, parity: u8, present: u8, taken: u64)
     ])
 }
 
-/// "The state keeps its shape, and a store too short for a kept shape gets 6":
+/// 6 also for a store that is too short for the frame whose shape the state has:
 /// `kept` is how many samples that frame has, 0 for none. Where the state is
 /// too short, what it keeps is not known, and 6 is given anyway.
 pub fn detector_push(

@@ -9,9 +9,9 @@ pub fn pixels(shape: PlaneNumbers) -> u64 {
     floats(shape).saturating_mul(4)
 }
 
-/// The frames before, now and after, each of luma and the two of chroma. "The
-/// three planes [...] must agree in width, height and depth; chroma planes are
-/// half size, rounded up, or get 5."
+/// The frames before, now and after, each of luma and the two of chroma. They
+/// agree in width, height and depth, and chroma has half the luma's size, rounded
+/// up; else 5.
 pub fn picture(
     quality: u8,
     output: OutputNumbers,

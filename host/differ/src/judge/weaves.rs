@@ -6,7 +6,7 @@ use desk::calls::{PlaneNumbers, ReadbackNumbers};
 
 use super::{Lent, in_bounds, lowest, needed, row};
 
-/// "Chroma planes are half size, rounded up."
+/// Of chroma, which has half the luma's size, rounded up.
 pub fn half(size: u32) -> u32 {
     size.div_ceil(2)
 }
@@ -28,7 +28,7 @@ pub fn stored(field: [Lent; 3]) -> u64 {
         .fold(0, |sum: u64, (shape, _)| sum.saturating_add(packed(*shape)))
 }
 
-/// "A field to be woven has at most 2,176 rows."
+/// No plane of a field that is woven has more than 2,176 rows.
 fn lines_in_bounds((shape, _): &Lent) -> bool {
     in_bounds(*shape) && shape.height <= 2176
 }
@@ -56,7 +56,7 @@ fn cramped(field: [Lent; 3], outs: [usize; 3]) -> bool {
         .any(|((shape, _), out)| (out as u64) < woven(*shape))
 }
 
-/// The two fields "must agree in width, height and depth".
+/// The two fields agree in width, height and depth.
 pub fn weave(top: [Lent; 3], bottom: [Lent; 3], outs: [usize; 3]) -> u8 {
     lowest(&[
         (4, !top.iter().chain(&bottom).all(lines_in_bounds)),
@@ -129,8 +129,8 @@ pub fn component(shape: PlaneNumbers) -> u64 {
     packed(PlaneNumbers { layout: 0, ..shape })
 }
 
-/// "Readback has no plane, or more than 3", and "only luma". A plane beyond
-/// the count is not there.
+/// 1 for no plane or more than three, 2 for luma alone. A plane beyond the
+/// count is not there.
 pub fn readback(about: ReadbackNumbers, lengths: [usize; 3], outs: [usize; 3]) -> u8 {
     let planes = read_from(about);
     let in_bounds = planes.iter().all(|(shape, _)| in_bounds(*shape));
@@ -170,8 +170,8 @@ impl Kept {
         }
     }
 
-    /// A field of equal parity replaces this one, "as does an opposite one of
-    /// another width, height or depth"; a fitting one gives the picture.
+    /// A field of the other parity and of the same width, height and depth gives
+    /// the picture; any other takes this one's place.
     pub fn fits(&self, field: [Lent; 3], parity: u8) -> bool {
         self.parity != parity && self.size == size(field[0])
     }
@@ -186,8 +186,8 @@ pub struct Room {
     pub outs: [usize; 3],
 }
 
-/// "A store too short for a kept shape gets 6"; 7 is of what the call writes:
-/// the outputs where there is a picture, else the store.
+/// 6 also for a store that is too short for what it keeps; 7 is of what the call
+/// writes: the outputs where there is a picture, else the store.
 pub fn push(kept: Option<Kept>, parity: u8, timed: u8, field: [Lent; 3], room: Room) -> u8 {
     let store = room.store as u64;
     let picture = kept.is_some_and(|kept| kept.fits(field, parity));

@@ -28,9 +28,8 @@ const DOWN: usize = 8;
 /// Busy blocks and all blocks of a field.
 type Counts = (u64, u64);
 
-/// "A sample differs when the difference is over 8. A block is 16 columns by 8
-/// field rows, smaller at the edges; it is busy when 4 times its differing
-/// samples exceed its size."
+/// A block has 16 columns and 8 rows of a field, fewer at the edges. It is busy
+/// if more than a quarter of its samples are more than 8 from what they were.
 pub(crate) fn by_reading(
     now: &[u8],
     then: &[u8],
@@ -118,7 +117,7 @@ impl Below<'_> {
         }
     }
 
-    /// "Moving = max(blocks/128, 4)": just at it, and one below.
+    /// Moving is max(blocks/128, 4): just at it, and one below.
     fn confirm(&self, (busy, total): Counts) -> Result<(), Difference> {
         let (busy, total) = (busy as usize, total as usize);
         let columns = self.luma.width.div_ceil(ACROSS);

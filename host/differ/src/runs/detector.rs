@@ -594,7 +594,7 @@ fn alphabet() -> Vec<Call> {
 /// Frames of the pattern from this step on, after a first one, until it locks,
 /// and so many more.
 fn locking(step: usize, more: usize) -> Vec<Call> {
-    // "Locks at its 11th, 10th, 9th, 13th, 12th frame."
+    // The cards: the frame at which it locks, by the step of the first.
     let until = [11, 10, 9, 13, 12][step] + more;
     let frames = (0..until).map(|at| measured(0, PATTERN[(step + at) % 5]));
     std::iter::once(absent(0)).chain(frames).collect()

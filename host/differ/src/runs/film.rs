@@ -72,8 +72,8 @@ pub fn frame_of(luma: Plane, depth: u32, first: u8) -> Frame {
     }
 }
 
-/// "Luma is kept as 8 bits: codes above 8 bits go right by depth - 8, modulo
-/// 256": the frame that a store keeps, row by row.
+/// The frame that a store keeps, row by row: of each code what is left after
+/// depth - 8 bits, and of that the lowest 8.
 pub fn kept_of(plane: &Plane, shape: PlaneNumbers) -> Vec<u8> {
     let samples = Samples::new(plane, shape.depth as u8);
     let mut kept = Vec::with_capacity(shape.width as usize * shape.height as usize);
@@ -274,8 +274,8 @@ impl Symbol {
         }
     }
 
-    /// Busy blocks that show it just so, of `total` blocks: "moving =
-    /// max(blocks/128, 4), quiet = max(blocks/1024, 1)".
+    /// Busy blocks that show it just so, of `total` blocks: moving is
+    /// max(blocks/128, 4), and quiet max(blocks/1024, 1).
     pub fn near(self, random: &mut Random, total: u64) -> [u64; 2] {
         let moving = (total / 128).max(4);
         let quiet = (total / 1024).max(1);

@@ -17,7 +17,7 @@ impl Code {
         match self.0 {
             0 => Ok(Primaries::Bt709.luma()),
             1 => Ok(Primaries::Bt2020.luma()),
-            // The table of docs/RULES.md: "a code names nothing".
+            // A code that names nothing (docs/RULES.md, "What the desk gets back").
             _ => Err(3),
         }
     }
