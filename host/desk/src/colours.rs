@@ -13,7 +13,8 @@ pub enum Primaries {
 }
 
 /// Luma, cb and cr, as [`value`](crate::value) gives them, to red, green and blue within 0 to 1.
-/// Refused with 8 where one of the nine numbers or of the three samples is out of its range.
+/// The nine numbers for BT.709 in 8 bits stand in examples/desk.rs. Refused with 8 where one of them
+/// or of the three samples is out of its range.
 pub fn rgb(conversion: Conversion, [y, cb, cr]: [f32; 3]) -> Result<[f32; 3], Refusal> {
     let mut rgb = [0.0; 3];
     let [red, green, blue] = &mut rgb;

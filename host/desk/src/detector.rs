@@ -103,7 +103,7 @@ impl Detector {
 #[cfg(test)]
 mod tests {
     use super::{Cadence, Detector, Lines, STATE_BYTES, calls};
-    use crate::Parity::Top;
+    use crate::Parity::{Bottom, Top};
     use crate::Refusal;
     use crate::calls::GridNumbers;
     use crate::films::tests::{ANSWERS, REEL, counts};
@@ -125,6 +125,10 @@ mod tests {
                 again.reset();
                 assert!(!again.locked());
                 assert_eq!(again.predict(4), Ok(Cadence::None));
+                // Led by the other field, the next frame cannot be compared.
+                let mut other = detector.clone();
+                let found = other.push_measured(Bottom, REEL[10].map(counts));
+                assert_eq!((found, other.locked()), (Ok(Cadence::None), false));
             }
         }
     }
@@ -143,6 +147,9 @@ mod tests {
             let found = detector.push(Top, picture);
             assert_eq!(found, Ok(ANSWERS[at]), "entry {at}");
             if at == 10 {
+                let mut other = detector.clone();
+                let found = other.push(Bottom, picture);
+                assert_eq!((found, other.locked()), (Ok(Cadence::None), false));
                 let was = detector.clone();
                 let short = Lines::packed(&bytes[1..], 64, 16, 8);
                 let short = detector.push(Top, short);

@@ -73,7 +73,8 @@ impl KeptFrame {
 /// knows no size of the kept frame, and would compare samples of other places.
 pub fn busy_blocks(picture: Lines<'_>, kept: &KeptFrame, field: Parity) -> Result<Counts, Refusal> {
     let alike = (picture.width, picture.height) == (kept.width, kept.height);
-    // Of no samples a good shape gets 6 and a bad one 4, which is below 5.
+    // A frame of another size is lent as if it were empty, so that no sample is compared: the call
+    // gives 4 for a bad shape, and for a good one 6, in whose place 5 stands.
     let store: &[u8] = if alike { &kept.samples } else { &[] };
     let mut counts = Counts { busy: 0, total: 0 };
     let number = calls::busy(
@@ -84,7 +85,7 @@ pub fn busy_blocks(picture: Lines<'_>, kept: &KeptFrame, field: Parity) -> Resul
         &mut counts.busy,
         &mut counts.total,
     );
-    Refusal::check(if alike { number } else { number.min(5) })?;
+    Refusal::check(if alike || number == 4 { number } else { 5 })?;
     Ok(counts)
 }
 
@@ -157,7 +158,8 @@ impl fmt::Display for TooManyBlocks {
 impl Error for TooManyBlocks {}
 
 /// The cadence of each entry, from a fresh detector on: what [`Detector::push_measured`] would say
-/// of one after the other. Refused with 9 where there are more than 4,000,000,000.
+/// of one after the other. Refused with 9 where there are more than 4,000,000,000. Entries in bytes,
+/// as a reel file has them, go to [`calls::cadences`] as they are.
 pub fn cadences(entries: &[Entry]) -> Result<Vec<Cadence>, Refusal> {
     let bytes: Vec<u8> = entries.iter().flat_map(|entry| entry.to_bytes()).collect();
     let mut numbers = vec![0; entries.len()];

@@ -80,6 +80,7 @@ mod weaves;
 #[rustfmt::skip]
 pub mod calls;
 
+#[doc(inline)]
 pub use calls::Conversion;
 pub use colours::{Primaries, luma_weights, quantise, rgb};
 pub use combs::{comb, comb_rgba};
