@@ -327,22 +327,17 @@ pub(crate) mod tests {
         let kept = KeptFrame::of(padded).expect("a good shape");
         assert_eq!(kept.samples(), [1, 255, 2, 0]);
         let refused = |picture| KeptFrame::of(picture).map_err(Refusal::number);
-        assert_eq!(
-            refused(Lines {
-                stride: 3,
-                ..padded
-            }),
-            Err(4)
-        );
-        let short = &padded.bytes[1..];
-        assert_eq!(
-            refused(Lines {
-                bytes: short,
-                ..padded
-            }),
-            Err(6)
-        );
-        let vast = Lines::packed(short, u32::MAX, u32::MAX, 8);
+        let narrow = Lines {
+            stride: 3,
+            ..padded
+        };
+        assert_eq!(refused(narrow), Err(4));
+        let short = Lines {
+            bytes: &padded.bytes[1..],
+            ..padded
+        };
+        assert_eq!(refused(short), Err(6));
+        let vast = Lines::packed(padded.bytes, u32::MAX, u32::MAX, 8);
         assert_eq!(refused(vast), Err(4));
     }
 

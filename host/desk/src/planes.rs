@@ -179,16 +179,11 @@ mod tests {
         let refused = |plane, x| code(plane, x, 0).map_err(Refusal::number);
         assert_eq!(refused(luma, 1), Err(3));
         assert_eq!(refused(Plane { depth: 17, ..luma }, 0), Err(4));
-        assert_eq!(
-            refused(
-                Plane {
-                    bytes: &[0xC0],
-                    ..luma
-                },
-                0
-            ),
-            Err(6)
-        );
+        let short = Plane {
+            bytes: &[0xC0],
+            ..luma
+        };
+        assert_eq!(refused(short, 0), Err(6));
         assert_eq!(value(planar, 0, 65_537).map_err(Refusal::number), Err(3));
     }
 
