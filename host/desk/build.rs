@@ -34,7 +34,8 @@ fn main() {
     if !right_target {
         println!(
             "cargo::error=the target is {target}, but the archives hold x86-64 code for Linux; \
-             expected x86_64-unknown-linux-gnu, which host/cargo chooses"
+             expected x86_64-unknown-linux-gnu, which host/cargo chooses, and for a workspace \
+             elsewhere the lines that `host/cargo env` prints"
         );
     }
     println!("cargo::rustc-link-search=native={}", folder.display());

@@ -1,116 +1,99 @@
-//! What a capture desk does with the proved code, by the safe wrappers: weaves
-//! two fields, combs the frame, and lists the cadences of measured entries.
+//! What a capture desk does with the proved code: weaves fields, measures comb
+//! and what changed, makes a picture, and finds film in the counts of a reel.
 //!
-//!     host/cargo run --example desk -p desk
+//!     host/cargo run -p desk --example desk
 
-use std::process::ExitCode;
+use std::error::Error;
 
-use desk::{Counts, Detector, ENTRY_BYTES, FieldNumbers, LinesNumbers, Parity, Refusal};
-use desk::{cadences, comb_of, woven_planes};
+use desk::Parity::{Bottom, Top};
+use desk::{Conversion, Counts, Detector, Entry, Field, Frame, KeptFrame, Lines, Output, Quality};
+use desk::{busy_blocks, cadences, comb, comb_rgba, picture, weave};
 
-/// Samples in a line, and lines of a field: a frame has twice as many.
+/// Columns, and rows of a frame: a field has half as many rows.
 const WIDTH: u32 = 64;
-const LINES: u32 = 24;
+const HEIGHT: u32 = 48;
 
-/// Lines of 8 bits, tightly packed; a stride above the width would pad them.
-const fn lines(width: u32, height: u32) -> LinesNumbers {
-    let (depth, stride) = (8, width);
-    LinesNumbers {
-        width,
-        height,
-        depth,
-        stride,
-    }
-}
+/// What the nine numbers are for BT.709 in 8 bits, black at 16 and white at 235.
+const BT709: Conversion = Conversion {
+    luma_offset: 16.0 / 255.0,
+    luma_gain: 255.0 / 219.0,
+    chroma_offset: 128.0 / 255.0,
+    chroma_gain: 255.0 / 224.0,
+    kr: 0.2126,
+    kb: 0.0722,
+    luma_lift: 0.0,
+    chroma_cos: 1.0,
+    chroma_sin: 0.0,
+};
 
 /// The luma of a field: a bright bar on dark ground, its left edge at `left`.
 fn bar(left: u32) -> Vec<u8> {
     let bright = |x| (left..left + 8).contains(&x);
-    let line = (0..WIDTH).map(|x| if bright(x) { 200 } else { 20 });
-    line.collect::<Vec<u8>>().repeat(LINES as usize)
+    let row = (0..WIDTH).map(|x| if bright(x) { 200 } else { 20 });
+    row.collect::<Vec<u8>>().repeat(HEIGHT as usize / 2)
 }
 
-/// The woven luma, and its comb.
-fn frame(top: &[u8], bottom: &[u8]) -> Result<(Vec<u8>, u64), Refusal> {
-    // Chroma has half the width and half the lines of its own field.
-    let (luma, cb) = (lines(WIDTH, LINES), lines(WIDTH / 2, LINES / 2));
-    let field = FieldNumbers { luma, cb, cr: cb };
-    let grey = [128; (WIDTH / 2 * LINES / 2) as usize];
-    let (top, bottom) = ([top, &grey, &grey], [bottom, &grey, &grey]);
+/// A field without colour: its chroma has half the columns and half the rows.
+fn field(luma: &[u8]) -> Field<'_> {
+    const GREY: &[u8] = &[128; (WIDTH / 2 * HEIGHT / 4) as usize];
+    Field::packed([luma, GREY, GREY], WIDTH, HEIGHT / 2, 8)
+}
+
+/// The woven luma of a frame; what is woven has no padding.
+fn lines(luma: &[u8]) -> Lines<'_> {
+    Lines::packed(luma, WIDTH, HEIGHT, 8)
+}
+
+/// The reel of docs/RULES.md: busy blocks of the leading field and of the trailing.
+/// The first frame has none, since there was nothing to compare it with.
+fn measured(frame: usize) -> Option<[Counts; 2]> {
+    let busy = match frame {
+        0 => return None,
+        1 | 6 | 11 | 12 => [0, 40],
+        3 | 8 => [40, 0],
+        _ => [40, 40],
+    };
+    Some(busy.map(|busy| Counts { busy, total: 1350 }))
+}
+
+fn main() -> Result<(), Box<dyn Error>> {
     // The top field comes first whichever was captured first; a `desk::Weaver`
-    // takes them in the order of capture and pairs them.
-    let [luma, _cb, _cr] = woven_planes(field, top, field, bottom)?;
-    // What is woven is packed, so its stride is its width again.
-    let comb = comb_of(&luma, WIDTH, 2 * LINES, 8, WIDTH)?;
-    Ok((luma, comb))
-}
-
-/// The reel of docs/RULES.md: busy blocks of the leading and the trailing field. None
-/// for the first frame: there was nothing to compare it with.
-fn busy_blocks(at: usize) -> Option<[u16; 2]> {
-    match at {
-        0 => None,
-        1 | 6 | 11 | 12 => Some([0, 40]),
-        3 | 8 => Some([40, 0]),
-        _ => Some([40, 40]),
-    }
-}
-const FRAMES: usize = 13;
-const BLOCKS: u16 = 1350;
-
-fn run() -> Result<(), Refusal> {
+    // takes fields in the order of capture and pairs them.
     let (still, moved) = (bar(10), bar(16));
-    let (luma, calm) = frame(&still, &still)?;
-    let (_, combed) = frame(&still, &moved)?;
-    println!(
-        "woven: {WIDTH} by {}, {} bytes of luma",
-        2 * LINES,
-        luma.len()
-    );
-    println!("comb: {calm} where nothing moved, {combed} where the bar went on 6 samples");
+    let [calm, ..] = weave(field(&still), field(&still))?;
+    let [combed, cb, cr] = weave(field(&still), field(&moved))?;
+    let (before, after) = (comb(lines(&calm))?, comb(lines(&combed))?);
+    println!("comb: {before} where nothing moved, {after} where the bar went on 6 columns");
 
     // A refused call has written nothing; it may be made again with better bytes.
-    if let Err(refusal) = frame(&still[1..], &still) {
+    if let Err(refusal) = weave(field(&still[1..]), field(&still)) {
         println!("a top field that lacks a byte: {refusal}");
     }
 
-    // Frame by frame, as they are captured.
+    let kept = KeptFrame::of(lines(&calm))?;
+    for parity in [Top, Bottom] {
+        let Counts { busy, total } = busy_blocks(lines(&combed), &kept, parity)?;
+        println!("{parity:?} field: {busy} of {total} blocks changed");
+    }
+
+    // The top field alone, its missing rows made; here no other frame is at hand.
+    let frame = Frame::planar([&combed, &cb, &cr], WIDTH, HEIGHT, 8);
+    let rgba = picture(Quality::Bwdif, Output::field(Top), BT709, [frame; 3])?;
+    let left = comb_rgba(&rgba, WIDTH, HEIGHT)?;
+    println!(
+        "its top field as a picture: {} bytes, comb {left}",
+        rgba.len()
+    );
+
+    // Frame by frame, as they are captured; and all at once, as a reel has them.
     let mut detector = Detector::new();
     let mut entries = Vec::new();
-    for at in 0..FRAMES {
-        let busy = busy_blocks(at);
-        let total = BLOCKS.into();
-        let counts = busy.map(|both| {
-            both.map(|busy| Counts {
-                busy: busy.into(),
-                total,
-            })
-        });
-        let cadence = detector.push_measured(Parity::Top, counts)?;
+    for frame in 0..13 {
+        let cadence = detector.push_measured(Top, measured(frame))?;
         let lock = if detector.locked() { ", locked" } else { "" };
-        println!("frame {at}: {cadence:?}{lock}");
-
-        // The same as an entry of a reel file: 16 bits a number, low byte first.
-        let [leading, trailing] = busy.unwrap_or_default();
-        let present = u16::from(busy.is_some());
-        for number in [0, present, leading, BLOCKS, trailing, BLOCKS] {
-            entries.extend(number.to_le_bytes());
-        }
+        println!("frame {frame}: {cadence:?}{lock}");
+        entries.push(Entry::new(Top, measured(frame))?);
     }
-    // All at once, always from a fresh detector: a byte for each entry.
-    let mut all = vec![0; entries.len() / ENTRY_BYTES];
-    Refusal::check(cadences(&entries, &mut all))?;
-    println!("all at once, 0 none, 1 whole, 2 drop, 3 spanning: {all:?}");
+    println!("all at once: {:?}", cadences(&entries)?);
     Ok(())
-}
-
-/// Not `main() -> Result`, which would print the number without its words.
-fn main() -> ExitCode {
-    match run() {
-        Ok(()) => ExitCode::SUCCESS,
-        Err(refusal) => {
-            eprintln!("desk: {refusal}");
-            ExitCode::FAILURE
-        }
-    }
 }

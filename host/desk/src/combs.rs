@@ -1,22 +1,25 @@
-//! Comb by number: crates/desk/src/combs.rt.
+//! Comb: crates/desk/src/combs.rt.
 
-use crate::{Refusal, calls};
+use crate::{Lines, Refusal, calls};
 
-/// [`comb()`] with its answer as a value.
-pub fn comb_of(
-    plane: &[u8],
-    width: u32,
-    height: u32,
-    depth: u32,
-    stride: u32,
-) -> Result<u64, Refusal> {
+/// How much rows differ from the rows beside them: the sum of |2 * here - up - down| over all rows
+/// that have one above and one below, of codes as they stand. Refused with 4 and with 6.
+pub fn comb(lines: Lines<'_>) -> Result<u64, Refusal> {
+    let Lines {
+        bytes,
+        width,
+        height,
+        depth,
+        stride,
+    } = lines;
     let mut total = 0;
-    Refusal::check(calls::comb(plane, width, height, depth, stride, &mut total))?;
+    Refusal::check(calls::comb(bytes, width, height, depth, stride, &mut total))?;
     Ok(total)
 }
 
-/// [`comb_rgba`] with its answer as a value.
-pub fn comb_rgba_of(rgba: &[u8], width: u32, height: u32) -> Result<u64, Refusal> {
+/// The comb of the green of a picture of four bytes a pixel, as [`picture`](crate::picture()) makes
+/// it. Refused with 4 and with 6.
+pub fn comb_rgba(rgba: &[u8], width: u32, height: u32) -> Result<u64, Refusal> {
     let mut total = 0;
     Refusal::check(calls::comb_rgba(rgba, width, height, &mut total))?;
     Ok(total)
@@ -24,19 +27,42 @@ pub fn comb_rgba_of(rgba: &[u8], width: u32, height: u32) -> Result<u64, Refusal
 
 #[cfg(test)]
 mod tests {
-    use super::{Refusal, comb_of, comb_rgba_of};
+    use super::{Lines, calls, comb, comb_rgba};
+    use crate::Refusal;
 
     /// The card of docs/RULES.md: 10, 20, 10 in one column.
     #[test]
-    fn the_friendly_forms_say_what_the_numbers_say() {
-        assert_eq!(comb_of(&[10, 20, 10], 1, 3, 8, 1), Ok(20));
-        assert_eq!(comb_of(&[10, 99, 20, 7, 10], 1, 3, 8, 2), Ok(20));
-        let picture = [1, 10, 2, 3, 4, 20, 5, 6, 7, 10, 8, 9];
-        assert_eq!(comb_rgba_of(&picture, 1, 3), Ok(20));
+    fn a_row_between_two_others() {
+        let column = Lines::packed(&[10, 20, 10], 1, 3, 8);
+        assert_eq!(comb(column), Ok(20));
+        let padded = Lines {
+            bytes: &[10, 99, 20, 7, 10],
+            stride: 2,
+            ..column
+        };
+        assert_eq!(comb(padded), Ok(20));
+        let rgba = [1, 10, 2, 3, 4, 20, 5, 6, 7, 10, 8, 9];
+        assert_eq!(comb_rgba(&rgba, 1, 3), Ok(20));
+
         let refused = |found: Result<u64, Refusal>| found.map_err(Refusal::number);
-        assert_eq!(refused(comb_of(&[10, 20, 10], 1, 3, 8, 0)), Err(4));
-        assert_eq!(refused(comb_of(&[10, 20], 1, 3, 8, 1)), Err(6));
-        assert_eq!(refused(comb_rgba_of(&picture, 0, 3)), Err(4));
-        assert_eq!(refused(comb_rgba_of(&picture[1..], 1, 3)), Err(6));
+        assert_eq!(
+            refused(comb(Lines {
+                stride: 0,
+                ..column
+            })),
+            Err(4)
+        );
+        let short = Lines::packed(&[10, 20], 1, 3, 8);
+        assert_eq!(refused(comb(short)), Err(6));
+        assert_eq!(refused(comb_rgba(&rgba, 0, 3)), Err(4));
+        assert_eq!(refused(comb_rgba(&rgba[1..], 1, 3)), Err(6));
+    }
+
+    #[test]
+    fn a_refused_comb_leaves_what_is_lent() {
+        let mut total = 9;
+        assert_eq!(calls::comb(&[10, 20], 1, 3, 8, 1, &mut total), 6);
+        assert_eq!(calls::comb_rgba(&[10, 20], 1, 3, &mut total), 6);
+        assert_eq!(total, 9);
     }
 }

@@ -1,28 +1,28 @@
-//! Block counts and the detector by number: crates/filmdesk/src/lib.rt.
+//! What is measured of frames, and what that says of film: crates/filmdesk/src/lib.rt.
 
-use crate::calls::GridNumbers;
-use crate::{Parity, Refusal, calls};
+use std::error::Error;
+use std::fmt;
 
-/// Bytes in which a detector is kept between calls.
-pub const STATE_BYTES: usize = 96;
+use crate::{Detector, Lines, Parity, Refusal, calls};
 
 /// Bytes of a measured entry.
 pub const ENTRY_BYTES: usize = 12;
 
-/// What a detector says of a frame; the desk's numbers are 0 to 3.
+/// What is found of a frame. The numbers are the desk's.
 #[derive(Debug, Clone, Copy, PartialEq, Eq)]
 pub enum Cadence {
-    None,
+    /// No film is found.
+    None = 0,
     /// Both fields are of one film frame.
-    Whole,
+    Whole = 1,
     /// The frame has no film frame of its own.
-    Drop,
+    Drop = 2,
     /// The leading field and the trailing one before it are of one film frame.
-    Spanning,
+    Spanning = 3,
 }
 
 impl Cadence {
-    fn named(number: u8) -> Self {
+    pub(crate) fn named(number: u8) -> Self {
         match number {
             0 => Self::None,
             1 => Self::Whole,
@@ -40,128 +40,142 @@ pub struct Counts {
     pub total: u64,
 }
 
-/// [`busy()`] with its answer as a value.
-pub fn counts_of(
-    plane: &[u8],
-    grid: GridNumbers,
-    store: &[u8],
-    field: Parity,
-) -> Result<Counts, Refusal> {
+/// A frame's luma as the next frame is compared with it: 8-bit samples, row by row.
+#[derive(Debug, Clone, PartialEq, Eq)]
+pub struct KeptFrame {
+    width: u32,
+    height: u32,
+    samples: Vec<u8>,
+}
+
+impl KeptFrame {
+    /// Of a frame's luma. Refused with 4 and with 6.
+    pub fn of(picture: Lines<'_>) -> Result<Self, Refusal> {
+        // No call has this alone. A push keeps exactly this frame in the store that it is lent,
+        // and a fresh detector has nothing else there; which field leads plays no part.
+        let mut detector = Detector::new();
+        detector.push(Parity::Top, picture)?;
+        Ok(Self {
+            width: picture.width,
+            height: picture.height,
+            samples: detector.into_store(),
+        })
+    }
+
+    /// As [`calls::busy`] takes it for its store.
+    pub fn samples(&self) -> &[u8] {
+        &self.samples
+    }
+}
+
+/// The blocks of a field that differ from the same field of the frame before, and all blocks.
+/// Refused with 4, with 6, and with 5 where the frames differ in width or height: [`calls::busy`]
+/// knows no size of the kept frame, and would compare samples of other places.
+pub fn busy_blocks(picture: Lines<'_>, kept: &KeptFrame, field: Parity) -> Result<Counts, Refusal> {
+    let alike = (picture.width, picture.height) == (kept.width, kept.height);
+    // A frame of another size is lent as if it were empty, so that no sample is compared: the call
+    // gives 4 for a bad shape, and for a good one 6, in whose place 5 stands.
+    let store: &[u8] = if alike { &kept.samples } else { &[] };
     let mut counts = Counts { busy: 0, total: 0 };
-    Refusal::check(calls::busy(
-        plane,
-        grid,
+    let number = calls::busy(
+        picture.bytes,
+        picture.grid(),
         store,
         field as u8,
         &mut counts.busy,
         &mut counts.total,
-    ))?;
+    );
+    Refusal::check(if alike || number == 4 { number } else { 5 })?;
     Ok(counts)
 }
 
-/// A detector with its state and the frame that it keeps.
-#[derive(Debug, Clone, PartialEq, Eq)]
-pub struct Detector {
-    state: [u8; STATE_BYTES],
-    /// As long as the largest frame so far.
-    store: Vec<u8>,
+/// What was measured of a frame, as a reel file has it.
+#[derive(Debug, Clone, Copy, PartialEq, Eq)]
+pub struct Entry {
+    first: Parity,
+    counts: Option<[Counts; 2]>,
 }
 
-impl Default for Detector {
-    fn default() -> Self {
-        Self::new()
-    }
-}
-
-impl Detector {
-    pub fn new() -> Self {
-        let mut state = [0; STATE_BYTES];
-        let number = calls::detector_new(&mut state);
-        assert_eq!(number, 0, "desk_detector_new needs no more than the state");
-        Self {
-            state,
-            store: Vec::new(),
+impl Entry {
+    /// Of a frame led by `first`: the counts of the leading field, then of the trailing; or none,
+    /// where the frame could not be compared.
+    pub fn new(first: Parity, counts: Option<[Counts; 2]>) -> Result<Self, TooManyBlocks> {
+        let both = counts.iter().flatten();
+        let largest = both.map(|field| field.busy.max(field.total)).max();
+        match largest {
+            Some(count) if count > u16::MAX.into() => Err(TooManyBlocks { count }),
+            _ => Ok(Self { first, counts }),
         }
     }
 
-    /// Starts again; only which field led in the last frame is remembered.
-    pub fn reset(&mut self) {
-        let number = calls::detector_reset(&mut self.state);
-        assert_eq!(number, 0, "desk_detector_reset refuses no whole state");
+    pub fn first(self) -> Parity {
+        self.first
     }
 
-    pub fn locked(&self) -> bool {
-        let mut locked = 0;
-        let number = calls::detector_locked(&self.state, &mut locked);
-        assert_eq!(number, 0, "desk_detector_locked refuses no whole state");
-        locked == 1
+    pub fn counts(self) -> Option<[Counts; 2]> {
+        self.counts
     }
 
-    /// The cadence of the frame that comes after `ahead` others, at most
-    /// 1,000,000.
-    pub fn predict(&self, ahead: u64) -> Result<Cadence, Refusal> {
-        let mut cadence = 0;
-        Refusal::check(calls::detector_predict(&self.state, ahead, &mut cadence))?;
-        Ok(Cadence::named(cadence))
-    }
-
-    /// Takes counts of a frame led by `first`, of the leading field and then of
-    /// the trailing; or none, where the frame could not be compared.
-    pub fn push_measured(
-        &mut self,
-        first: Parity,
-        measured: Option<[Counts; 2]>,
-    ) -> Result<Cadence, Refusal> {
+    /// Six numbers of 16 bits, low byte first: which field leads, whether there are counts, and
+    /// the counts.
+    pub fn to_bytes(self) -> [u8; ENTRY_BYTES] {
         let nothing = Counts { busy: 0, total: 0 };
-        let [leading, trailing] = measured.unwrap_or([nothing; 2]);
-        let mut cadence = 0;
-        Refusal::check(calls::detector_push_measured(
-            &mut self.state,
-            first as u8,
-            measured.is_some().into(),
+        let [leading, trailing] = self.counts.unwrap_or([nothing; 2]);
+        let numbers = [
+            self.first as u64,
+            self.counts.is_some().into(),
             leading.busy,
             leading.total,
             trailing.busy,
             trailing.total,
-            &mut cadence,
-        ))?;
-        Ok(Cadence::named(cadence))
-    }
-
-    /// Takes a picture led by `first`: its plane of luma.
-    pub fn push(
-        &mut self,
-        first: Parity,
-        plane: &[u8],
-        grid: GridNumbers,
-    ) -> Result<Cadence, Refusal> {
-        // A plane that suffices for its shape has at least a byte a sample; for
-        // another there is nothing to keep.
-        let samples = u64::from(grid.width) * u64::from(grid.height);
-        if self.store.len() as u64 <= samples && samples <= plane.len() as u64 {
-            self.store.resize(samples as usize, 0);
+        ];
+        let mut bytes = [0; ENTRY_BYTES];
+        for (place, number) in bytes.chunks_exact_mut(2).zip(numbers) {
+            let number = u16::try_from(number).expect("an entry is made of numbers that fit");
+            place.copy_from_slice(&number.to_le_bytes());
         }
-        let mut cadence = 0;
-        Refusal::check(calls::detector_push(
-            &mut self.state,
-            first as u8,
-            plane,
-            grid,
-            &mut self.store,
-            &mut cadence,
-        ))?;
-        Ok(Cadence::named(cadence))
+        bytes
     }
 }
 
+/// A count is too large for an entry. [`Detector::push_measured`] takes every count.
+#[derive(Debug, Clone, Copy, PartialEq, Eq)]
+pub struct TooManyBlocks {
+    pub count: u64,
+}
+
+impl fmt::Display for TooManyBlocks {
+    fn fmt(&self, f: &mut fmt::Formatter<'_>) -> fmt::Result {
+        let Self { count } = self;
+        write!(
+            f,
+            "a count is {count} blocks; expected at most 65535, since an entry of a reel file has \
+             16 bits for it"
+        )
+    }
+}
+
+impl Error for TooManyBlocks {}
+
+/// The cadence of each entry, from a fresh detector on: what [`Detector::push_measured`] would say
+/// of one after the other. Refused with 9 where there are more than 4,000,000,000. Entries in bytes,
+/// as a reel file has them, go to [`calls::cadences`] as they are.
+pub fn cadences(entries: &[Entry]) -> Result<Vec<Cadence>, Refusal> {
+    let bytes: Vec<u8> = entries.iter().flat_map(|entry| entry.to_bytes()).collect();
+    let mut numbers = vec![0; entries.len()];
+    Refusal::check(calls::cadences(&bytes, &mut numbers))?;
+    Ok(numbers.into_iter().map(Cadence::named).collect())
+}
+
 #[cfg(test)]
-mod tests {
-    use super::{Cadence, Counts, Detector, GridNumbers, Refusal, STATE_BYTES, calls, counts_of};
+pub(crate) mod tests {
+    use super::{Cadence, Counts, Entry, KeptFrame, TooManyBlocks, busy_blocks, cadences};
     use crate::Parity::{Bottom, Top};
+    use crate::{Lines, Refusal, calls};
 
     /// Busy blocks of the thirteen entries of the reel file of docs/RULES.md; none of
     /// the first.
-    const REEL: [Option<[u64; 2]>; 13] = [
+    pub(crate) const REEL: [Option<[u64; 2]>; 13] = [
         None,
         Some([0, 40]),
         Some([40, 40]),
@@ -177,7 +191,7 @@ mod tests {
         Some([0, 40]),
     ];
 
-    const ANSWERS: [Cadence; 13] = {
+    pub(crate) const ANSWERS: [Cadence; 13] = {
         let mut all = [Cadence::None; 13];
         all[9] = Cadence::Whole;
         all[10] = Cadence::Whole;
@@ -185,68 +199,84 @@ mod tests {
         all
     };
 
+    pub(crate) fn counts(busy: [u64; 2]) -> [Counts; 2] {
+        busy.map(|busy| Counts { busy, total: 1350 })
+    }
+
+    fn entries() -> Vec<Entry> {
+        let entry = |busy: Option<[u64; 2]>| Entry::new(Top, busy.map(counts)).expect("small");
+        REEL.map(entry).to_vec()
+    }
+
     #[test]
-    fn the_reel_of_the_example() {
-        let mut detector = Detector::new();
-        for (at, entry) in REEL.into_iter().enumerate() {
-            let measured = entry.map(|busy| busy.map(|busy| Counts { busy, total: 1350 }));
-            let found = detector.push_measured(Top, measured);
-            assert_eq!(found, Ok(ANSWERS[at]), "entry {at}");
-            assert_eq!(detector.locked(), (9..12).contains(&at), "entry {at}");
-            if at == 9 {
-                assert_eq!(detector.predict(0), Ok(Cadence::None));
-                assert_eq!(detector.predict(4), Ok(Cadence::Whole));
-                assert_eq!(detector.predict(6), Ok(Cadence::Drop));
-                let far = detector.predict(1_000_001);
-                assert_eq!(far.map_err(Refusal::number), Err(10));
-                let mut again = detector.clone();
-                again.reset();
-                assert!(!again.locked());
-                assert_eq!(again.predict(4), Ok(Cadence::None));
-            }
+    fn the_reel_of_the_example_in_entries() {
+        assert_eq!(cadences(&entries()), Ok(ANSWERS.to_vec()));
+        assert_eq!(cadences(&[]), Ok(Vec::new()));
+    }
+
+    #[test]
+    fn an_entry_has_sixteen_bits_for_each_number() {
+        let large = Counts {
+            busy: 0x0102,
+            total: 0xFFFF,
+        };
+        let small = Counts { busy: 3, total: 4 };
+        let entry = Entry::new(Bottom, Some([large, small])).expect("all fit");
+        let bytes = [1, 0, 1, 0, 2, 1, 0xFF, 0xFF, 3, 0, 4, 0];
+        assert_eq!(entry.to_bytes(), bytes);
+        assert_eq!(
+            (entry.first(), entry.counts()),
+            (Bottom, Some([large, small]))
+        );
+        let absent = Entry::new(Top, None).expect("nothing to fit");
+        assert_eq!(absent.to_bytes(), [0; 12]);
+
+        let too_large = Counts {
+            total: 0x1_0000,
+            ..large
+        };
+        for counts in [[too_large, small], [small, too_large]] {
+            let refused = Entry::new(Top, Some(counts)).expect_err("one does not fit");
+            assert_eq!(refused, TooManyBlocks { count: 0x1_0000 });
+            assert!(refused.to_string().contains("65536 blocks; expected"));
         }
     }
 
     #[test]
     fn the_same_reel_in_bytes() {
-        let mut entries = Vec::new();
-        for entry in REEL {
-            let [leading, trailing] = entry.unwrap_or([9, 9]);
-            let numbers = [0, entry.is_some().into(), leading, 1350, trailing, 1350];
-            entries.extend(numbers.iter().flat_map(|n| (*n as u16).to_le_bytes()));
-        }
+        let mut bytes: Vec<u8> = entries().iter().flat_map(|e| e.to_bytes()).collect();
+        // Nothing is read of the counts that are said to be absent.
+        bytes[4..12].fill(9);
         let mut out = [9; 14];
-        assert_eq!(calls::cadences(&entries, &mut out), 0);
-        let wanted: Vec<u8> = ANSWERS.iter().map(|cadence| *cadence as u8).collect();
+        assert_eq!(calls::cadences(&bytes, &mut out), 0);
+        let wanted = ANSWERS.map(|cadence| cadence as u8);
         assert_eq!((&out[..13], out[13]), (&wanted[..], 9));
         assert_eq!(calls::cadences(&[], &mut []), 0);
         out = [9; 14];
-        assert_eq!(calls::cadences(&entries, &mut out[..12]), 7);
-        assert_eq!(calls::cadences(&entries[1..], &mut out[..12]), 3);
-        assert_eq!(calls::cadences(&entries[..155], &mut out[..12]), 6);
-        entries[2] = 2;
-        assert_eq!(calls::cadences(&entries[..155], &mut out[..12]), 3);
+        assert_eq!(calls::cadences(&bytes, &mut out[..12]), 7);
+        assert_eq!(calls::cadences(&bytes[1..], &mut out[..12]), 3);
+        assert_eq!(calls::cadences(&bytes[..155], &mut out[..12]), 6);
+        bytes[2] = 2;
+        assert_eq!(calls::cadences(&bytes[..155], &mut out[..12]), 3);
         assert_eq!(out, [9; 14]);
     }
 
-    const GRID: GridNumbers = GridNumbers {
-        width: 64,
-        height: 16,
-        depth: 8,
-        stride: 64,
-    };
+    fn picture(bytes: &[u8]) -> Lines<'_> {
+        Lines::packed(bytes, 64, 16, 8)
+    }
 
     /// The cards of docs/RULES.md: 33 of 128 differ, and 32.
     #[test]
     fn a_quarter_of_a_block_is_not_busy() {
-        let store = [100; 64 * 16];
+        let before = [100; 64 * 16];
+        let kept = KeptFrame::of(picture(&before)).expect("a good shape");
         let of = |samples: usize, code: u8, field| {
-            let mut plane = store;
+            let mut bytes = before;
             for at in 0..samples {
                 // The columns of the second block, and the rows of the bottom field.
-                plane[64 * (2 * (at / 16) + 1) + 16 + at % 16] = code;
+                bytes[64 * (2 * (at / 16) + 1) + 16 + at % 16] = code;
             }
-            let counts = counts_of(&plane, GRID, &store, field).expect("all within");
+            let counts = busy_blocks(picture(&bytes), &kept, field).expect("all within");
             (counts.busy, counts.total)
         };
         assert_eq!(of(33, 109, Bottom), (1, 4));
@@ -254,98 +284,74 @@ mod tests {
         assert_eq!(of(33, 108, Bottom), (0, 4));
         assert_eq!(of(32, 109, Bottom), (0, 4));
         assert_eq!(of(33, 109, Top), (0, 4));
-        let refused = |plane: &[u8], grid, store: &[u8]| {
-            let found = counts_of(plane, grid, store, Top);
-            found.expect_err("refused").number()
+
+        let refused = |picture| busy_blocks(picture, &kept, Top).map_err(Refusal::number);
+        let shallow = Lines {
+            depth: 7,
+            ..picture(&before)
         };
-        assert_eq!(refused(&store, GridNumbers { depth: 7, ..GRID }, &[]), 4);
-        assert_eq!(refused(&store[1..], GRID, &store), 6);
-        assert_eq!(refused(&store, GRID, &store[1..]), 6);
+        assert_eq!(refused(shallow), Err(4));
+        assert_eq!(refused(picture(&before[1..])), Err(6));
+        let (mut busy, mut total) = (7, 8);
+        let grid = picture(&before).grid();
+        for (store, field, number) in [(&before[1..], 0, 6), (&before[..], 2, 3)] {
+            let given = calls::busy(&before, grid, store, field, &mut busy, &mut total);
+            assert_eq!((given, busy, total), (number, 7, 8));
+        }
+    }
+
+    #[test]
+    fn a_kept_frame_of_another_size_is_refused() {
+        let bytes = [0; 64 * 16];
+        let kept = KeptFrame::of(picture(&bytes)).expect("a good shape");
+        let refused = |bytes, width, height| {
+            let found = busy_blocks(Lines::packed(bytes, width, height, 8), &kept, Top);
+            found.map_err(Refusal::number)
+        };
+        // As many samples, fewer, more; too few bytes; and shapes that are none.
+        assert_eq!(refused(&bytes[..], 16, 64), Err(5));
+        assert_eq!(refused(&bytes[..], 64, 15), Err(5));
+        assert_eq!(refused(&[0; 65 * 16][..], 65, 16), Err(5));
+        assert_eq!(refused(&[], 64, 15), Err(5));
+        assert_eq!(refused(&bytes[..], 0, 16), Err(4));
+        assert_eq!(refused(&bytes[..], u32::MAX, u32::MAX), Err(4));
+    }
+
+    #[test]
+    fn a_frame_is_kept_in_eight_bits_without_padding() {
+        let words = [0x0004, 0x03FF, 0x7777, 0x0008, 0x0C00].map(u16::to_le_bytes);
+        let padded = Lines {
+            stride: 6,
+            ..Lines::packed(words.as_flattened(), 2, 2, 10)
+        };
+        let kept = KeptFrame::of(padded).expect("a good shape");
+        assert_eq!(kept.samples(), [1, 255, 2, 0]);
+        let refused = |picture| KeptFrame::of(picture).map_err(Refusal::number);
+        let narrow = Lines {
+            stride: 3,
+            ..padded
+        };
+        assert_eq!(refused(narrow), Err(4));
+        let short = Lines {
+            bytes: &padded.bytes[1..],
+            ..padded
+        };
+        assert_eq!(refused(short), Err(6));
+        let vast = Lines::packed(padded.bytes, u32::MAX, u32::MAX, 8);
+        assert_eq!(refused(vast), Err(4));
     }
 
     /// As the original reads it, and as docs/RULES.md says: ten bits go right by
     /// two, whatever a biplanar frame would have its luma do first.
     #[test]
     fn words_are_read_as_they_stand() {
-        let grid = GridNumbers {
-            width: 1,
-            height: 1,
-            depth: 10,
-            stride: 2,
-        };
+        let kept = KeptFrame::of(Lines::packed(&[0], 1, 1, 8)).expect("a good shape");
         let of = |word: u16| {
-            let counts = counts_of(&word.to_le_bytes(), grid, &[0], Top).expect("all within");
+            let word = word.to_le_bytes();
+            let counts = busy_blocks(Lines::packed(&word, 1, 1, 10), &kept, Top);
+            let counts = counts.expect("all within");
             (counts.busy, counts.total)
         };
         assert_eq!((of(0x0C00), of(0x0030)), ((0, 1), (1, 1)));
-    }
-
-    #[test]
-    fn pictures_lock_as_their_counts_do() {
-        let mut detector = Detector::new();
-        let (mut top, mut bottom) = (0, 0);
-        for (at, entry) in REEL.into_iter().enumerate() {
-            let [leading, trailing] = entry.unwrap_or([0, 0]);
-            top ^= if leading > 0 { 200 } else { 0 };
-            bottom ^= if trailing > 0 { 200 } else { 0 };
-            let rows = (0..16).flat_map(|y| [if y % 2 == 0 { top } else { bottom }; 64]);
-            let plane: Vec<u8> = rows.collect();
-            let found = detector.push(Top, &plane, GRID);
-            assert_eq!(found, Ok(ANSWERS[at]), "entry {at}");
-            if at == 10 {
-                let was = detector.clone();
-                let short = detector.push(Top, &plane[1..], GRID);
-                assert_eq!(short.map_err(Refusal::number), Err(6));
-                let large = GridNumbers {
-                    width: u32::MAX,
-                    height: u32::MAX,
-                    ..GRID
-                };
-                let large = detector.push(Top, &plane, large);
-                assert_eq!(large.map_err(Refusal::number), Err(4));
-                assert_eq!(detector, was);
-            }
-        }
-        assert_eq!(detector.store.len(), 64 * 16);
-    }
-
-    /// No call trusts what it is lent: numbers that no history reaches are read
-    /// as some detector, too.
-    #[test]
-    fn any_bytes_are_some_detector() {
-        const TAKEN: std::ops::Range<usize> = 2 * 8..3 * 8;
-        let plane = [100; 64 * 16];
-        for fill in [0x01, 0x7F, 0xFF] {
-            let mut state = [fill; STATE_BYTES];
-            let (mut locked, mut cadence) = (9, 9);
-            assert_eq!(calls::detector_locked(&state, &mut locked), 0);
-            assert_eq!(calls::detector_predict(&state, 5, &mut cadence), 0);
-            assert!(locked <= 1 && cadence <= 3, "{locked} {cadence}");
-
-            // More frames than are ever taken; then none.
-            cadence = 9;
-            let number = calls::detector_push_measured(&mut state, 0, 1, 0, 9, 9, 9, &mut cadence);
-            assert_eq!((number, cadence, state), (9, 9, [fill; STATE_BYTES]));
-            state[TAKEN].fill(0);
-            let number = calls::detector_push_measured(&mut state, 0, 1, 0, 9, 9, 9, &mut cadence);
-            assert!(number == 0 && cadence <= 3, "{number} {cadence}");
-
-            // The frame that is said to be kept is larger than the store.
-            let mut store = [7; 64 * 16];
-            let was = state;
-            cadence = 9;
-            let number = calls::detector_push(&mut state, 0, &plane, GRID, &mut store, &mut cadence);
-            assert_eq!((number, cadence, state), (6, 9, was));
-            assert_eq!(store, [7; 64 * 16]);
-            assert_eq!(calls::detector_reset(&mut state), 0);
-            let number = calls::detector_push(&mut state, 0, &plane, GRID, &mut store, &mut cadence);
-            assert_eq!((number, cadence, store), (0, 0, plane));
-        }
-    }
-
-    #[test]
-    fn a_fresh_detector_needs_its_bytes() {
-        let mut state = [5; STATE_BYTES - 1];
-        assert_eq!((calls::detector_new(&mut state), state), (7, [5; STATE_BYTES - 1]));
     }
 }

@@ -1,123 +1,202 @@
-//! The rows a field lacks, by number: crates/desk/src/filters.rt.
+//! The rows a field lacks: crates/desk/src/filters.rt.
 
-use crate::calls::PlaneNumbers;
-use crate::{Refusal, calls};
+use crate::{Parity, Plane, Refusal, calls};
 
-/// [`edge`] with its answer as a value.
-pub fn slant_of(cur: &[u8], shape: PlaneNumbers, x: i32, y: i32) -> Result<i32, Refusal> {
+/// How the rows that a field lacks are made. The numbers are the desk's.
+#[derive(Debug, Clone, Copy, PartialEq, Eq)]
+pub enum Quality {
+    /// They are not made: both fields are shown.
+    Weave = 0,
+    /// From the rows above and below.
+    Bob = 1,
+    /// Along edges, and held to what moved between the frames before and after.
+    Yadif = 2,
+    /// Likewise, from three rows above and three below.
+    Bwdif = 3,
+}
+
+/// Which rows are taken from where.
+#[derive(Debug, Clone, Copy, PartialEq, Eq)]
+pub struct Rows {
+    /// The field that is shown; the other's rows are made. Weave does not ask for it.
+    pub first: Parity,
+    /// The field whose rows Weave takes from the frame before. The others do not ask for it.
+    pub mate: Option<Parity>,
+}
+
+/// How an edge runs through a place of a missing row: from -2, over 0 for upright, to 2. Refused as
+/// [`value`](crate::value) is.
+pub fn slant(plane: Plane<'_>, x: i32, y: i32) -> Result<i32, Refusal> {
     let mut slant = 0;
-    Refusal::check(calls::edge(cur, shape, x, y, &mut slant))?;
+    let number = calls::edge(plane.bytes, plane.numbers(), x, y, &mut slant);
+    Refusal::check(number)?;
     Ok(slant)
+}
+
+/// The value at a place of the plane in the middle, of one before it and one after it. Refused with
+/// 3 where a coordinate is not within -65,536 to 65,536, with 4, with 5 where the three differ in
+/// width, height or depth, and with 6.
+pub fn sample(
+    quality: Quality,
+    [before, cur, after]: [Plane<'_>; 3],
+    rows: Rows,
+    x: i32,
+    y: i32,
+) -> Result<f32, Refusal> {
+    let mut value = 0.0;
+    let number = calls::sample(
+        quality as u8,
+        before.bytes,
+        before.numbers(),
+        cur.bytes,
+        cur.numbers(),
+        after.bytes,
+        after.numbers(),
+        rows.first as u32,
+        Parity::number_or_none(rows.mate),
+        x,
+        y,
+        &mut value,
+    );
+    Refusal::check(number)?;
+    Ok(value)
+}
+
+/// All values of the plane in the middle, row by row, of which the field `first` is shown and the
+/// other is made. Refused with 4, with 5 where the three differ in width, height or depth, and
+/// with 6.
+pub fn fill_plane(
+    quality: Quality,
+    first: Parity,
+    [before, cur, after]: [Plane<'_>; 3],
+) -> Result<Vec<f32>, Refusal> {
+    let mut values = vec![0.0; cur.samples()];
+    let number = calls::plane(
+        quality as u8,
+        first as u8,
+        before.bytes,
+        before.numbers(),
+        cur.bytes,
+        cur.numbers(),
+        after.bytes,
+        after.numbers(),
+        &mut values,
+    );
+    Refusal::check(number)?;
+    Ok(values)
 }
 
 #[cfg(test)]
 mod tests {
-    use super::{PlaneNumbers, Refusal, calls, slant_of};
+    use super::Parity::{Bottom, Top};
+    use super::{Plane, Quality, Rows, calls, fill_plane, sample, slant};
+    use crate::Refusal;
 
-    const SHAPE: PlaneNumbers = PlaneNumbers {
-        width: 5,
-        height: 3,
-        depth: 8,
-        stride: 5,
-        layout: 0,
-    };
-
-    #[test]
-    fn the_friendly_form_says_what_the_number_says() {
-        // By hand: bright from column 3 on above, and from column 1 on below.
-        let (above, below) = ([0, 0, 0, 255, 255], [0, 255, 255, 255, 255]);
-        let step = |above: [u8; 5], below: [u8; 5]| [above, [9; 5], below].concat();
-        let picture = step(above, below);
-        assert_eq!(slant_of(&picture, SHAPE, 2, 1), Ok(1));
-        assert_eq!(slant_of(&step(below, above), SHAPE, 2, 1), Ok(-1));
-        // A bright spot on each side, which -1 passes by and 1 joins: a tie.
-        let spots = step([0, 0, 0, 255, 0], [0, 255, 0, 0, 0]);
-        assert_eq!(slant_of(&spots, SHAPE, 2, 1), Ok(-1));
-        let refused = |found: Result<i32, Refusal>| found.map_err(Refusal::number);
-        assert_eq!(refused(slant_of(&picture, SHAPE, 65_537, 1)), Err(3));
-        assert_eq!(refused(slant_of(&picture[1..], SHAPE, 2, 1)), Err(6));
-        let flat = PlaneNumbers { height: 0, ..SHAPE };
-        assert_eq!(refused(slant_of(&picture, flat, 2, 1)), Err(4));
+    fn plane(bytes: &[u8]) -> Plane<'_> {
+        Plane::packed(bytes, 5, 3, 8)
     }
 
     #[test]
-    fn each_plane_and_number_comes_to_its_own_place() {
+    fn slants_by_hand() {
+        // Bright from column 3 on above, and from column 1 on below.
+        let (above, below) = ([0, 0, 0, 255, 255], [0, 255, 255, 255, 255]);
+        let step = |above: [u8; 5], below: [u8; 5]| [above, [9; 5], below].concat();
+        let bytes = step(above, below);
+        let picture = plane(&bytes);
+        assert_eq!(slant(picture, 2, 1), Ok(1));
+        assert_eq!(slant(plane(&step(below, above)), 2, 1), Ok(-1));
+        // A bright spot on each side, which -1 passes by and 1 joins: a tie.
+        let spots = step([0, 0, 0, 255, 0], [0, 255, 0, 0, 0]);
+        assert_eq!(slant(plane(&spots), 2, 1), Ok(-1));
+
+        let refused = |plane, x| slant(plane, x, 1).map_err(Refusal::number);
+        assert_eq!(refused(picture, 65_537), Err(3));
+        assert_eq!(refused(plane(&bytes[1..]), 2), Err(6));
+        let flat = Plane {
+            height: 0,
+            ..picture
+        };
+        assert_eq!(refused(flat, 2), Err(4));
+    }
+
+    #[test]
+    fn each_plane_and_field_comes_to_its_own_place() {
+        let bytes = [51, 102, 255].map(|code| [code; 15]);
+        let planes = bytes.each_ref().map(|bytes| plane(bytes));
+        let of = |quality, mate| sample(quality, planes, Rows { first: Top, mate }, 2, 1);
+        // Weave takes the rows of `mate` from the plane before.
+        assert_eq!(of(Quality::Weave, Some(Bottom)), Ok(51.0 / 255.0));
+        assert_eq!(of(Quality::Weave, Some(Top)), Ok(102.0 / 255.0));
+        // Bob makes the row of the plane in the middle alone, and Yadif holds it
+        // to the average of 51 and 255, more or less by half of the change.
+        assert_eq!(of(Quality::Bob, None), Ok(102.0 / 255.0));
+        assert_eq!(of(Quality::Yadif, None), Ok(102.0 / 255.0));
+        assert_eq!(of(Quality::Bwdif, None), Ok(102.0 / 255.0));
+        // The field that is shown is the middle plane's own.
+        let far = Rows {
+            first: Bottom,
+            mate: None,
+        };
+        let shown = sample(Quality::Yadif, planes, far, 2, 1);
+        assert_eq!(shown, Ok(102.0 / 255.0));
+        let far = sample(Quality::Bob, planes, far, 2, -65_537);
+        assert_eq!(far.map_err(Refusal::number), Err(3));
+    }
+
+    #[test]
+    fn codes_that_name_nothing_leave_what_is_lent() {
+        let shape = plane(&[]).numbers();
         let [before, cur, after] = [51, 102, 255].map(|code| [code; 15]);
-        let of = |quality, first, mate, y| {
+        for (quality, first, mate) in [(4, 0, 2), (2, 2, 2), (2, 0, 3)] {
             let mut value = -1.0;
             let number = calls::sample(
-                quality, &before, SHAPE, &cur, SHAPE, &after, SHAPE, first, mate, 2, y, &mut value,
+                quality, &before, shape, &cur, shape, &after, shape, first, mate, 2, 1, &mut value,
             );
-            (number, value)
-        };
-        // Weave takes the rows of `mate` from `before`.
-        assert_eq!(of(0, 0, 1, 1), (0, 51.0 / 255.0));
-        assert_eq!(of(0, 0, 0, 1), (0, 102.0 / 255.0));
-        // Bob makes the row of `cur` alone, and Yadif holds it to the average of
-        // 51 and 255, more or less by half of the change.
-        assert_eq!(of(1, 0, 2, 1), (0, 102.0 / 255.0));
-        assert_eq!(of(2, 0, 2, 1), (0, 102.0 / 255.0));
-        assert_eq!(of(4, 0, 2, 1), (3, -1.0));
-        assert_eq!(of(2, 2, 2, 1), (3, -1.0));
-        assert_eq!(of(2, 0, 3, 1), (3, -1.0));
+            assert_eq!((number, value), (3, -1.0));
+        }
     }
 
     #[test]
     fn planes_that_differ_are_refused() {
         let bytes = [0; 15];
-        let narrow = PlaneNumbers { width: 4, ..SHAPE };
-        let mut value = 0.0;
-        let number = calls::sample(
-            1, &bytes, SHAPE, &bytes, SHAPE, &bytes, narrow, 0, 2, 0, 0, &mut value,
-        );
-        assert_eq!(number, 5);
-        let number = calls::sample(
-            1,
-            &bytes[1..],
-            SHAPE,
-            &bytes,
-            SHAPE,
-            &bytes,
-            SHAPE,
-            0,
-            2,
-            0,
-            0,
-            &mut value,
-        );
-        assert_eq!(number, 6);
+        let whole = plane(&bytes);
+        let rows = Rows {
+            first: Top,
+            mate: None,
+        };
+        let refused = |planes| {
+            let number = sample(Quality::Bob, planes, rows, 0, 0).map_err(Refusal::number);
+            let filled = fill_plane(Quality::Bob, Top, planes).map_err(Refusal::number);
+            assert_eq!(filled.err(), number.err());
+            number
+        };
+        let narrow = Plane { width: 4, ..whole };
+        assert_eq!(refused([whole, whole, narrow]), Err(5));
+        assert_eq!(refused([plane(&bytes[1..]), whole, whole]), Err(6));
+        let vast = Plane::packed(&bytes, u32::MAX, u32::MAX, 16);
+        assert_eq!(refused([vast; 3]), Err(4));
     }
 
     #[test]
     fn a_whole_plane_is_made_row_by_row() {
-        let shape = PlaneNumbers {
-            width: 2,
-            height: 3,
-            stride: 2,
-            ..SHAPE
-        };
-        let other = [255; 6];
-        let cur = [0, 51, 7, 7, 102, 153];
-        let mut out = [9.0; 7];
-        let number = calls::plane(1, 0, &other, shape, &cur, shape, &other, shape, &mut out);
-        assert_eq!(number, 0);
-        // Bob's row is half of those above and below it, and the last float is
-        // not the plane's.
-        let rows = [0.0, 0.2, 0.2, 0.4, 0.4, 0.6, 9.0];
+        let plane = |bytes| Plane::packed(bytes, 2, 3, 8);
+        let other = plane(&[255; 6]);
+        let cur = plane(&[0, 51, 7, 7, 102, 153]);
+        // Bob's row is half of those above and below it.
+        let rows = [0.0, 0.2, 0.2, 0.4, 0.4, 0.6];
         let near = |(found, wanted): (&f32, f32)| (found - wanted).abs() < 1e-6;
-        assert!(out.iter().zip(rows).all(near), "{out:?}");
+        let found = fill_plane(Quality::Bob, Top, [other, cur, other]).expect("all agree");
+        assert_eq!(found.len(), rows.len());
+        assert!(found.iter().zip(rows).all(near), "{found:?}");
+
+        // What is lent beyond the plane stays, and all of it where it is too short.
+        let (shape, other) = (cur.numbers(), other.bytes);
+        let fill =
+            |out: &mut [f32]| calls::plane(1, 0, other, shape, cur.bytes, shape, other, shape, out);
+        let mut out = [9.0; 7];
+        assert_eq!(fill(&mut out), 0);
+        assert_eq!((&out[..6], out[6]), (&found[..], 9.0));
         out = [9.0; 7];
-        let number = calls::plane(
-            1,
-            0,
-            &other,
-            shape,
-            &cur,
-            shape,
-            &other,
-            shape,
-            &mut out[..5],
-        );
-        assert_eq!((number, out), (7, [9.0; 7]));
+        assert_eq!((fill(&mut out[..5]), out), (7, [9.0; 7]));
     }
 }

@@ -1,50 +1,136 @@
-//! Pictures by number: crates/picturedesk/src/lib.rt.
+//! Pictures: crates/picturedesk/src/lib.rt.
 
 use crate::calls::{Conversion, FrameNumbers, OutputNumbers};
-use crate::{Refusal, calls};
+use crate::planes::row_bytes;
+use crate::{Layout, Parity, Plane, Quality, Refusal, calls};
 
-/// A frame that is lent: its shapes, and the bytes of each plane.
-#[derive(Debug, Clone, Copy)]
-pub struct Lent<'a> {
-    pub shapes: FrameNumbers,
-    pub luma: &'a [u8],
-    pub cb: &'a [u8],
-    pub cr: &'a [u8],
+/// The three planes of a frame that is lent. Chroma has half the luma's width and height, rounded
+/// up. Where cb and cr share a plane, each lends the same bytes.
+#[derive(Debug, Clone, Copy, PartialEq, Eq)]
+pub struct Frame<'a> {
+    pub luma: Plane<'a>,
+    pub cb: Plane<'a>,
+    pub cr: Plane<'a>,
 }
 
-/// [`picture`] of three frames.
-pub fn picture_into(
-    quality: u8,
-    output: OutputNumbers,
+impl<'a> Frame<'a> {
+    /// Of luma, cb and cr without padding. For padded rows set each plane's `stride`.
+    pub fn planar([luma, cb, cr]: [&'a [u8]; 3], width: u32, height: u32, depth: u32) -> Self {
+        let chroma = |bytes| Plane::packed(bytes, width.div_ceil(2), height.div_ceil(2), depth);
+        Self {
+            luma: Plane::packed(luma, width, height, depth),
+            cb: chroma(cb),
+            cr: chroma(cr),
+        }
+    }
+
+    /// Of luma, and cb and cr sample by sample, without padding. For padded rows set each plane's
+    /// `stride`.
+    pub fn biplanar([luma, both]: [&'a [u8]; 2], width: u32, height: u32, depth: u32) -> Self {
+        let mut frame = Self::planar([luma, both, both], width, height, depth);
+        let stride = row_bytes(frame.cb.width, depth).saturating_mul(2);
+        (frame.cb.stride, frame.cr.stride) = (stride, stride);
+        frame.luma.layout = Layout::BiplanarLuma;
+        frame.cb.layout = Layout::FirstOfTwo;
+        frame.cr.layout = Layout::SecondOfTwo;
+        frame
+    }
+
+    fn numbers(self) -> FrameNumbers {
+        FrameNumbers {
+            luma: self.luma.numbers(),
+            cb: self.cb.numbers(),
+            cr: self.cr.numbers(),
+        }
+    }
+}
+
+/// One of the three frames that a picture is made of. The numbers are the desk's.
+#[derive(Debug, Clone, Copy, PartialEq, Eq)]
+pub enum Source {
+    Previous = 0,
+    Current = 1,
+    Next = 2,
+}
+
+/// What is shown of three frames.
+#[derive(Debug, Clone, Copy, PartialEq, Eq)]
+pub struct Output {
+    /// The field of the current frame that is shown. Without one both are, whatever the quality.
+    pub field: Option<Parity>,
+    /// The field whose rows Weave takes from the earlier frame, where film is put together again.
+    pub weave: Option<Parity>,
+    /// The frame that serves as earlier.
+    pub earlier: Source,
+    /// The frame that serves as later.
+    pub later: Source,
+}
+
+impl Output {
+    /// The current frame as it is, both fields woven.
+    pub const WHOLE: Self = Self {
+        field: None,
+        weave: None,
+        earlier: Source::Previous,
+        later: Source::Next,
+    };
+
+    /// A field of the current frame, and the rows that it lacks made.
+    pub fn field(field: Parity) -> Self {
+        Self {
+            field: Some(field),
+            ..Self::WHOLE
+        }
+    }
+
+    fn numbers(self) -> OutputNumbers {
+        OutputNumbers {
+            field: Parity::number_or_none(self.field),
+            weave: Parity::number_or_none(self.weave),
+            earlier: self.earlier as u32,
+            later: self.later as u32,
+        }
+    }
+}
+
+/// A picture of the frame in the middle: four bytes a pixel, red, green, blue and 255, row by row.
+/// All three frames have to be good, also one that the output does not ask for: refused with 4,
+/// with 5 where sizes or depths differ, with 6, and with 8 where one of the nine numbers is out of
+/// its range.
+pub fn picture(
+    quality: Quality,
+    output: Output,
     conversion: Conversion,
-    [previous, current, following]: [Lent<'_>; 3],
-    out: &mut [u8],
-) -> Result<(), Refusal> {
-    Refusal::check(calls::picture(
-        quality,
-        output,
+    [previous, current, following]: [Frame<'_>; 3],
+) -> Result<Vec<u8>, Refusal> {
+    let mut rgba = vec![0; 4 * current.luma.samples()];
+    let number = calls::picture(
+        quality as u8,
+        output.numbers(),
         conversion,
-        previous.shapes,
-        previous.luma,
-        previous.cb,
-        previous.cr,
-        current.shapes,
-        current.luma,
-        current.cb,
-        current.cr,
-        following.shapes,
-        following.luma,
-        following.cb,
-        following.cr,
-        out,
-    ))
+        previous.numbers(),
+        previous.luma.bytes,
+        previous.cb.bytes,
+        previous.cr.bytes,
+        current.numbers(),
+        current.luma.bytes,
+        current.cb.bytes,
+        current.cr.bytes,
+        following.numbers(),
+        following.luma.bytes,
+        following.cb.bytes,
+        following.cr.bytes,
+        &mut rgba,
+    );
+    Refusal::check(number)?;
+    Ok(rgba)
 }
 
 #[cfg(test)]
 mod tests {
-    use super::{Conversion, FrameNumbers, Lent, OutputNumbers, picture_into};
+    use super::Parity::{Bottom, Top};
+    use super::{Conversion, Frame, Output, OutputNumbers, Quality, Source, calls, picture};
     use crate::Refusal;
-    use crate::calls::PlaneNumbers;
 
     /// Without colour, and luma as it is.
     const GREY: Conversion = Conversion {
@@ -59,104 +145,127 @@ mod tests {
         chroma_sin: 0.0,
     };
 
-    const fn plane(width: u32, height: u32) -> PlaneNumbers {
-        PlaneNumbers {
-            width,
-            height,
-            depth: 8,
-            stride: width,
-            layout: 0,
-        }
+    fn frame(luma: &[u8; 3]) -> Frame<'_> {
+        Frame::planar([luma, &[128; 2], &[128; 2]], 1, 3, 8)
     }
 
-    const SHAPES: FrameNumbers = FrameNumbers {
-        luma: plane(1, 3),
-        cb: plane(1, 2),
-        cr: plane(1, 2),
-    };
-
-    fn lent(luma: &[u8; 3]) -> Lent<'_> {
-        Lent {
-            shapes: SHAPES,
-            luma,
-            cb: &[128; 2],
-            cr: &[128; 2],
-        }
-    }
-
-    fn greys(frames: [Lent<'_>; 3], quality: u8, output: OutputNumbers) -> Result<[u8; 3], u8> {
-        let mut out = [7; 13];
-        let done = picture_into(quality, output, GREY, frames, &mut out);
-        if let Err(refusal) = done {
-            assert_eq!(out, [7; 13]);
-            return Err(refusal.number());
-        }
-        assert_eq!(out[12], 7);
-        let pixels = out.chunks_exact(4);
-        assert!(
-            pixels
-                .clone()
-                .all(|p| p[0] == p[1] && p[1] == p[2] && p[3] == 255)
-        );
-        let greys: Vec<u8> = pixels.map(|pixel| pixel[0]).collect();
-        Ok(greys.try_into().expect("three pixels"))
+    fn greys(rgba: &[u8]) -> [u8; 3] {
+        let pixels = rgba.chunks_exact(4).map(|pixel| {
+            assert_eq!(pixel, [pixel[0], pixel[0], pixel[0], 255]);
+            pixel[0]
+        });
+        let greys: Vec<u8> = pixels.collect();
+        greys.try_into().expect("three pixels")
     }
 
     #[test]
-    fn each_frame_and_number_comes_to_its_own_place() {
+    fn each_frame_and_field_comes_to_its_own_place() {
         let frames = [[10, 20, 30], [40, 50, 60], [70, 80, 90]];
-        let frames = frames.each_ref().map(lent);
-        let of = |quality, field, weave, earlier| {
-            let output = OutputNumbers {
-                field,
-                weave,
-                earlier,
-                later: 1,
-            };
-            greys(frames, quality, output)
+        let frames = frames.each_ref().map(frame);
+        let of = |quality, output| {
+            let rgba = picture(quality, output, GREY, frames);
+            greys(&rgba.expect("all agree"))
         };
         // No field: woven of the current frame, or a field of it of another.
-        assert_eq!(of(2, 2, 2, 0), Ok([40, 50, 60]));
-        assert_eq!(of(2, 2, 1, 0), Ok([40, 20, 60]));
-        assert_eq!(of(2, 2, 0, 2), Ok([70, 50, 90]));
+        let yadif = |output| of(Quality::Yadif, output);
+        let current = Output {
+            later: Source::Current,
+            ..Output::WHOLE
+        };
+        assert_eq!(yadif(current), [40, 50, 60]);
+        let film = |weave, earlier| Output {
+            weave: Some(weave),
+            earlier,
+            ..current
+        };
+        assert_eq!(yadif(film(Bottom, Source::Previous)), [40, 20, 60]);
+        assert_eq!(yadif(film(Top, Source::Next)), [70, 50, 90]);
         // Bob: half of the rows above and below; at an end the row itself is one
         // of the two.
-        assert_eq!(of(1, 0, 2, 0), Ok([40, 50, 60]));
-        assert_eq!(of(1, 1, 2, 0), Ok([45, 50, 55]));
-        for refused in [
-            of(4, 0, 2, 0),
-            of(0, 3, 2, 0),
-            of(0, 0, 3, 0),
-            of(0, 0, 0, 3),
-        ] {
-            assert_eq!(refused, Err(3));
-        }
+        assert_eq!(of(Quality::Bob, Output::field(Top)), [40, 50, 60]);
+        assert_eq!(of(Quality::Bob, Output::field(Bottom)), [45, 50, 55]);
     }
 
     #[test]
-    fn refusals_leave_the_output() {
+    fn a_biplanar_frame_gives_the_planar_ones_picture() {
+        // Ten bits; a biplanar code stands six bits higher.
+        let words = |codes: &[u16], shift: u32| -> Vec<u8> {
+            let words = codes.iter().map(|code| code << shift);
+            words.flat_map(u16::to_le_bytes).collect()
+        };
+        let (luma, cb, cr) = ([100, 400, 1000], [512, 300], [700, 512]);
+        let planes = [words(&luma, 0), words(&cb, 0), words(&cr, 0)];
+        let shared = [words(&luma, 6), words(&[512, 700, 300, 512], 6)];
+        let planar = Frame::planar(planes.each_ref().map(Vec::as_slice), 1, 3, 10);
+        let biplanar = Frame::biplanar(shared.each_ref().map(Vec::as_slice), 1, 3, 10);
+        let colours = Conversion {
+            chroma_gain: 1.0,
+            ..GREY
+        };
+        let of = |frame| picture(Quality::Bob, Output::field(Top), colours, [frame; 3]);
+        assert_eq!(of(biplanar), of(planar));
+        let rgba = of(planar).expect("all agree");
+        assert_ne!((rgba[0], rgba[1]), (rgba[1], rgba[2]));
+    }
+
+    #[test]
+    fn bad_frames_are_refused() {
         let bytes = [1, 2, 3];
-        let output = OutputNumbers {
-            field: 0,
-            weave: 2,
-            earlier: 0,
-            later: 2,
-        };
-        let refused = |change: &dyn Fn(&mut [Lent<'_>; 3])| {
-            let mut frames = [lent(&bytes); 3];
+        let refused = |change: &dyn Fn(&mut [Frame<'_>; 3])| {
+            let mut frames = [frame(&bytes); 3];
             change(&mut frames);
-            greys(frames, 3, output).expect_err("refused")
+            let done = picture(Quality::Bwdif, Output::field(Top), GREY, frames);
+            done.expect_err("refused").number()
         };
-        assert_eq!(refused(&|frames| frames[2].shapes.cr.layout = 4), 3);
-        assert_eq!(refused(&|frames| frames[0].shapes.cb.depth = 7), 4);
-        assert_eq!(refused(&|frames| frames[1].shapes.cb.height = 1), 5);
-        assert_eq!(refused(&|frames| frames[0].luma = &[1, 2]), 6);
-        let mut short = [7; 11];
-        let done = picture_into(1, output, GREY, [lent(&bytes); 3], &mut short);
-        assert_eq!((done.map_err(Refusal::number), short), (Err(7), [7; 11]));
+        assert_eq!(refused(&|frames| frames[0].cb.depth = 7), 4);
+        assert_eq!(refused(&|frames| frames[1].luma.width = u32::MAX), 4);
+        assert_eq!(refused(&|frames| frames[1].cb.height = 1), 5);
+        assert_eq!(refused(&|frames| frames[0].luma.bytes = &[1, 2]), 6);
+        assert_eq!(refused(&|frames| frames[1].luma.bytes = &[]), 6);
         let steep = Conversion { kr: 0.5, ..GREY };
-        let mut out = [7; 12];
-        let done = picture_into(1, output, steep, [lent(&bytes); 3], &mut out);
-        assert_eq!((done.map_err(Refusal::number), out), (Err(8), [7; 12]));
+        let frames = [frame(&bytes); 3];
+        let done = picture(Quality::Bob, Output::WHOLE, steep, frames);
+        assert_eq!(done.map_err(Refusal::number), Err(8));
+    }
+
+    /// The call as it is, of one frame three times.
+    fn raw(quality: u8, output: OutputNumbers, layout: u32, kr: f32, out: &mut [u8]) -> u8 {
+        let Frame { luma, cb, cr } = frame(&[1, 2, 3]);
+        let shapes = frame(&[1, 2, 3]).numbers();
+        let mut last = shapes;
+        last.cr.layout = layout;
+        let (y, cb, cr) = (luma.bytes, cb.bytes, cr.bytes);
+        let conversion = Conversion { kr, ..GREY };
+        calls::picture(
+            quality, output, conversion, shapes, y, cb, cr, shapes, y, cb, cr, last, y, cb, cr, out,
+        )
+    }
+
+    #[test]
+    fn a_refused_call_leaves_what_is_lent() {
+        let good = Output::field(Top).numbers();
+        let with = |change: &dyn Fn(&mut OutputNumbers)| {
+            let mut output = good;
+            change(&mut output);
+            output
+        };
+        let cases = [
+            (4, good, 0, 0.25, 12, 3),
+            (0, with(&|output| output.field = 3), 0, 0.25, 12, 3),
+            (0, with(&|output| output.weave = 3), 0, 0.25, 12, 3),
+            (0, with(&|output| output.earlier = 3), 0, 0.25, 12, 3),
+            (0, with(&|output| output.later = 3), 0, 0.25, 12, 3),
+            (3, good, 4, 0.25, 12, 3),
+            (1, good, 0, 0.25, 11, 7),
+            (1, good, 0, 0.5, 12, 8),
+        ];
+        for (quality, output, layout, kr, room, number) in cases {
+            let mut out = [7; 13];
+            let given = raw(quality, output, layout, kr, &mut out[..room]);
+            assert_eq!((given, out), (number, [7; 13]));
+        }
+        let mut out = [7; 13];
+        assert_eq!((raw(1, good, 0, 0.25, &mut out), out[12]), (0, 7));
+        assert_eq!(greys(&out[..12]), [1, 2, 3]);
     }
 }

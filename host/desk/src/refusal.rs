@@ -4,11 +4,11 @@ use std::error::Error;
 use std::fmt;
 
 /// A call was refused: it wrote nothing and changed no state. Never holds 0.
-#[derive(Debug, Clone, Copy, PartialEq, Eq)]
+#[derive(Clone, Copy, PartialEq, Eq)]
 pub struct Refusal(u8);
 
 impl Refusal {
-    /// 0 is no refusal; every other number is one.
+    /// What a call of [`calls`](crate::calls) gave: 0 is no refusal, and every other number is one.
     pub fn check(number: u8) -> Result<(), Self> {
         match number {
             0 => Ok(()),
@@ -16,6 +16,7 @@ impl Refusal {
         }
     }
 
+    /// As in the table of docs/RULES.md.
     pub fn number(self) -> u8 {
         self.0
     }
@@ -57,6 +58,13 @@ impl fmt::Display for Refusal {
     }
 }
 
+/// The words too: they are what `expect` prints, and a `main` that gives a [`Result`].
+impl fmt::Debug for Refusal {
+    fn fmt(&self, f: &mut fmt::Formatter<'_>) -> fmt::Result {
+        fmt::Display::fmt(self, f)
+    }
+}
+
 impl Error for Refusal {}
 
 #[cfg(test)]
@@ -76,6 +84,7 @@ mod tests {
                     "{text}"
                 );
                 assert!(text.contains("; expected "), "{text}");
+                assert_eq!(format!("{refusal:?}"), text);
                 text.split_once(": ").expect("just seen").1.to_owned()
             })
             .collect();

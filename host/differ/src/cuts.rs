@@ -11,7 +11,6 @@ use std::fmt::Debug;
 use std::ops::Range;
 
 use desk::Cadence;
-use desk::calls::GridNumbers;
 use oracle::mediadecoder::video::Plane;
 use oracle::video::telecine::Detector;
 
@@ -45,18 +44,13 @@ impl Both {
         luma: Vec<u8>,
     ) -> Result<(Cadence, bool), Difference> {
         let Size { width, height } = size;
-        let grid = GridNumbers {
-            width: width as u32,
-            height: height as u32,
-            depth: 8,
-            stride: width as u32,
-        };
         let first = if top_first {
             desk::Parity::Top
         } else {
             desk::Parity::Bottom
         };
-        let given = self.ours.push(first, &luma, grid);
+        let picture = desk::Lines::packed(&luma, width as u32, height as u32, 8);
+        let given = self.ours.push(first, picture);
         let plane = Plane {
             data: luma,
             stride: width,

@@ -1,6 +1,9 @@
 //! The original's module `output::video`: four files of it, and stand-ins for
 //! the two types that `filter.rs` and `field.rs` take from it.
 
+// Its comments link to files of it that stay behind.
+#![allow(rustdoc::broken_intra_doc_links)]
+
 #[rustfmt::skip]
 #[path = "../../../docs/src/core/src/output/video/colour.rs"]
 pub mod colour;
