@@ -52,10 +52,13 @@ impl Run {
         let seen: BTreeSet<u8> = (1..=u8::MAX).filter(|n| tally.gave(*n) > 0).collect();
         let said = self.calls.iter().flat_map(|name| call(name).refusals);
         let mut said: BTreeSet<u8> = said.copied().collect();
-        if self.name == cadences::NAME {
+        match self.name {
             // Four billion entries would be 48 GB.
-            said.remove(&9);
-        }
+            cadences::NAME => said.remove(&9),
+            // Asked beside every case, and compared there without being counted.
+            detector::NAME => said.remove(&10),
+            _ => false,
+        };
         if seen == said {
             return Ok(tally);
         }

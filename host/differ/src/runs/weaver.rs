@@ -725,7 +725,7 @@ pub(crate) fn answers(mut random: Random, store: &mut Vec<u8>) -> Vec<Answer> {
         found: Vec::new(),
     };
     let mut streams = 0;
-    while streams < 28 {
+    while streams < 32 {
         let mut maker = Maker::new(Random::new(random.next()));
         if maker.store > 220 {
             continue;
