@@ -21,16 +21,18 @@ const HELP: &str = "\
 measure [top | bottom] < TAPE.y4m > TAPE.reel
 
 Counts, for each frame of a tape, the blocks of 16 columns by 8 rows that changed
-since the frame before, in the field that comes first and in the other. The
+since the frame before, in the field that comes first and in the other one. The
 program `cadence` finds film in these counts: ./run cadence < TAPE.reel
 
-The input is YUV4MPEG2, 4:2:0, 4:2:2 or gray, of 8 or 10 bits:
+The input is YUV4MPEG2: 4:2:0 or 4:2:2, 8 or 10 bits, or gray of 8 bits.
 
     ffmpeg -nostdin -v error -i TAPE.mov -map 0:v:0 -pix_fmt yuv422p10le -strict -1 \\
-        -f yuv4mpegpipe - | measure > TAPE.reel
+        -f yuv4mpegpipe - |
+        host/cargo run -q --release -p desk --example measure > TAPE.reel
 
-top or bottom is the field that comes first. Without the word the stream says it,
-by It or Ib in its header or by the I of a frame. The wrong one hides all film.
+top or bottom is the field that comes first: --example measure -- top. Without
+the word the stream says it, by It or Ib in its header or by the I of a frame.
+The wrong one hides all film.
 
 Ends with 0 when the reel is written, 1 where the input is refused, 2 where the
 call is wrong.

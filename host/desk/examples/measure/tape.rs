@@ -218,7 +218,10 @@ fn first_of(
             }
             (None, None) => "the header has no I to name the field that comes first".to_owned(),
         };
-        format!("{found}; expected It or Ib, or the word top or bottom on the command line")
+        format!(
+            "{found}; expected It or Ib, or the word top or bottom on the command line, as in \
+             --example measure -- top"
+        )
     })
 }
 

@@ -206,7 +206,8 @@ fn the_word_comes_before_the_frame_and_the_frame_before_the_header() {
 
 #[test]
 fn without_a_field_order_a_word_is_expected() {
-    let expected = "; expected It or Ib, or the word top or bottom on the command line";
+    let expected = "; expected It or Ib, or the word top or bottom on the command line, as in \
+                    --example measure -- top";
     let names_none = "which names no field as the first";
     for order in ["p", "?", "m", "x", ""] {
         let found = firsts(&format!(" I{order}"), [""; 4], None);
