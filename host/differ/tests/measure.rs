@@ -56,7 +56,7 @@ impl Pictures {
     }
 
     /// A line for each frame, by the original's detector.
-    fn by_the_original(&self, first: Parity) -> String {
+    fn by_the_original(&self, first: impl Fn(usize) -> Parity) -> String {
         let bytes = if self.depth > 8 { 2 } else { 1 };
         let mut detector = Detector::new();
         let mut text = String::new();
@@ -75,7 +75,7 @@ impl Pictures {
                     ..Format::default()
                 },
                 planes: [plane, Plane::default(), Plane::default()],
-                top_field_first: first == Top,
+                top_field_first: first(at) == Top,
                 ..Frame::default()
             });
             let cadence = match cadence {
@@ -93,6 +93,17 @@ impl Pictures {
     /// A line for each frame of the reel that `measure` makes, by the second
     /// reader. The stream's chroma is another in every frame.
     fn by_measure(&self, format: &str, order: &str, word: Option<Parity>) -> String {
+        self.by_measure_each(format, order, word, |_| "")
+    }
+
+    /// The same with what stands behind each FRAME.
+    fn by_measure_each(
+        &self,
+        format: &str,
+        order: &str,
+        word: Option<Parity>,
+        frame: impl Fn(usize) -> &'static str,
+    ) -> String {
         let (width, height) = (self.width, self.height);
         let rows = if format.starts_with("420") {
             height.div_ceil(2)
@@ -103,7 +114,7 @@ impl Pictures {
         let chroma = 2 * width.div_ceil(2) * rows * bytes;
         let mut stream = format!("YUV4MPEG2 W{width} H{height} {order} C{format}\n").into_bytes();
         for (at, luma) in self.all.iter().enumerate() {
-            stream.extend(b"FRAME\n");
+            stream.extend(format!("FRAME{}\n", frame(at)).bytes());
             stream.extend(luma);
             stream.resize(stream.len() + chroma, 90 * (at % 3) as u8);
         }
@@ -163,7 +174,7 @@ fn films_are_listed_as_the_original_does_over_their_pictures() {
                 (&film, "Ib", None, Bottom, 0),
                 (&turned, "It", None, Top, 0),
             ] {
-                let wanted = pictures.by_the_original(first);
+                let wanted = pictures.by_the_original(|_| first);
                 assert_eq!(locked_lines(&wanted), locked, "{name} {order} {word:?}");
                 for format in formats {
                     let found = pictures.by_measure(format, order, word);
@@ -171,6 +182,21 @@ fn films_are_listed_as_the_original_does_over_their_pictures() {
                 }
             }
         }
+    }
+}
+
+/// From frame 30 on the bottom field comes first. That frame is compared with none,
+/// and the ten behind it are needed to find film again.
+#[test]
+fn a_change_of_order_is_listed_as_the_original_does() {
+    for (name, mut film) in films() {
+        let turned = film.turned();
+        film.all[30..].clone_from_slice(&turned.all[30..]);
+        let wanted = film.by_the_original(|at| if at < 30 { Top } else { Bottom });
+        assert_eq!(locked_lines(&wanted), 20 + 20, "{name}");
+        let frame = |at| if at < 30 { " Itip" } else { " Ibip" };
+        let found = film.by_measure_each("420jpeg", "Im", None, frame);
+        assert_eq!(found, wanted, "{name}");
     }
 }
 
@@ -202,7 +228,7 @@ fn a_cut_in_large_pictures_is_listed_as_the_original_does() {
         depth: 8,
         all: reel.frames().map(|frame| frame.luma).collect(),
     };
-    let wanted = pictures.by_the_original(Bottom);
+    let wanted = pictures.by_the_original(|_| Bottom);
     // The pan from frame 10 on, and twelve frames of the stars.
     assert_eq!(locked_lines(&wanted), 5 + 12);
     assert_eq!(pictures.by_measure("420mpeg2", "Ib", None), wanted);

@@ -189,8 +189,8 @@ fn unreadable(error: io::Error) -> String {
 
 // ---- Field order
 
-/// The field that an I names as the first. A header has one letter, a frame three;
-/// T and B also have a player repeat the field, which is not in the stream.
+/// The field that an I names as the first. A header has one letter, a frame three.
+/// By T and B a player also repeats that field, which stands in the stream once.
 fn first_named(order: &str) -> Option<Parity> {
     match order.as_bytes() {
         [b't'] | [b't' | b'T', _, _] => Some(Parity::Top),
@@ -262,10 +262,10 @@ pub fn reel_of(input: &mut impl BufRead, first: Option<Parity>) -> Result<Vec<u8
             ));
         }
         let luma = &picture[..header.luma_bytes];
-        let said = |refusal: Refusal| refusal.to_string();
-        let measured = measured(luma, header.grid, before.as_deref(), first).map_err(said)?;
+        let told = |refusal: Refusal| refusal.to_string();
+        let measured = measured(luma, header.grid, before.as_deref(), first).map_err(told)?;
         entries.extend(entry(first, measured));
-        before = Some(kept(luma, header.grid).map_err(said)?);
+        before = Some(kept(luma, header.grid).map_err(told)?);
         frames += 1;
     }
     if frames == 0 {
@@ -277,7 +277,8 @@ pub fn reel_of(input: &mut impl BufRead, first: Option<Parity>) -> Result<Vec<u8
 }
 
 /// The counts of the leading field, then of the trailing. None where the frame
-/// cannot be compared: it is the first, or it has one row, and so one field.
+/// cannot be compared: it is the first, or it has one row, and so one field. That
+/// another field leads than in the frame before, a detector sees by itself.
 fn measured(
     luma: &[u8],
     grid: GridNumbers,
