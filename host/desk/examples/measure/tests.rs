@@ -257,7 +257,8 @@ fn a_field_has_no_more_blocks_than_a_reel_can_say() {
         (8192, 2032),
         (8176, 2048),
         (7680, 2176),
-        (4096, 4080),
+        // 65,535 of them.
+        (4080, 4112),
         (3840, 4352),
     ] {
         let found = header(&format!(" W{width} H{height}"));
