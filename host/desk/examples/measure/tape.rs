@@ -5,8 +5,7 @@
 
 use std::io::{self, BufRead, Read};
 
-use desk::{Counts, ENTRY_BYTES, GridNumbers, Parity, Refusal, STATE_BYTES};
-use desk::{counts_of, detector_new, detector_push};
+use desk::{Counts, Entry, KeptFrame, Lines, Parity, Refusal, busy_blocks};
 
 /// What a reel can say: its numbers have 16 bits.
 const MOST_FRAMES: u16 = u16::MAX;
@@ -50,7 +49,10 @@ const FORMATS: [(&str, u32, Chroma); 8] = [
 #[derive(Debug, Clone, PartialEq, Eq)]
 pub struct Header {
     /// Of the luma, which stands first in a picture, its rows without padding.
-    pub grid: GridNumbers,
+    pub width: u32,
+    pub height: u32,
+    /// Bits of a sample.
+    pub depth: u32,
     pub luma_bytes: usize,
     pub chroma_bytes: usize,
     /// What stands behind the I: t or b, or what names no field as the first.
@@ -96,12 +98,9 @@ impl Header {
             Chroma::HalfBoth => 2 * width.div_ceil(2) * height.div_ceil(2),
         };
         Ok(Self {
-            grid: GridNumbers {
-                width,
-                height,
-                depth: *depth,
-                stride: width * bytes,
-            },
+            width,
+            height,
+            depth: *depth,
             luma_bytes: (width * height * bytes) as usize,
             chroma_bytes: (chroma_samples * bytes) as usize,
             order: said(words, 'I').map(str::to_owned),
@@ -232,7 +231,7 @@ fn first_of(
 pub fn reel_of(input: &mut impl BufRead, first: Option<Parity>) -> Result<Vec<u8>, String> {
     let header = Header::read(input)?;
     let mut picture = vec![0; header.luma_bytes + header.chroma_bytes];
-    let mut before: Option<Vec<u8>> = None;
+    let mut before: Option<KeptFrame> = None;
     let mut frames = 0;
     let mut entries = Vec::new();
     loop {
@@ -262,10 +261,12 @@ pub fn reel_of(input: &mut impl BufRead, first: Option<Parity>) -> Result<Vec<u8
             ));
         }
         let luma = &picture[..header.luma_bytes];
+        let luma = Lines::packed(luma, header.width, header.height, header.depth);
         let told = |refusal: Refusal| refusal.to_string();
-        let measured = measured(luma, header.grid, before.as_deref(), first).map_err(told)?;
-        entries.extend(entry(first, measured));
-        before = Some(kept(luma, header.grid).map_err(told)?);
+        let counts = measured(luma, before.as_ref(), first).map_err(told)?;
+        let entry = Entry::new(first, counts).map_err(|fault| fault.to_string())?;
+        entries.extend(entry.to_bytes());
+        before = Some(KeptFrame::of(luma).map_err(told)?);
         frames += 1;
     }
     if frames == 0 {
@@ -280,51 +281,13 @@ pub fn reel_of(input: &mut impl BufRead, first: Option<Parity>) -> Result<Vec<u8
 /// cannot be compared: it is the first, or it has one row, and so one field. That
 /// another field leads than in the frame before, a detector sees by itself.
 fn measured(
-    luma: &[u8],
-    grid: GridNumbers,
-    before: Option<&[u8]>,
+    luma: Lines<'_>,
+    before: Option<&KeptFrame>,
     first: Parity,
 ) -> Result<Option<[Counts; 2]>, Refusal> {
-    let Some(before) = before.filter(|_| grid.height > 1) else {
+    let Some(before) = before.filter(|_| luma.height > 1) else {
         return Ok(None);
     };
-    let second = match first {
-        Parity::Top => Parity::Bottom,
-        Parity::Bottom => Parity::Top,
-    };
-    let counts = |field| counts_of(luma, grid, before, field);
-    Ok(Some([counts(first)?, counts(second)?]))
-}
-
-/// The frame as the next one is compared with it: 8-bit samples, row by row, as a
-/// detector keeps them that is then thrown away.
-// A friendly form of host/desk takes this function's place: kept_frame(picture, grid).
-fn kept(luma: &[u8], grid: GridNumbers) -> Result<Vec<u8>, Refusal> {
-    let mut state = [0; STATE_BYTES];
-    Refusal::check(detector_new(&mut state))?;
-    let mut store = vec![0; grid.width as usize * grid.height as usize];
-    let mut cadence = 0;
-    let number = detector_push(&mut state, 0, luma, grid, &mut store, &mut cadence);
-    Refusal::check(number)?;
-    Ok(store)
-}
-
-/// An entry of the reel: what it counts is 0 where there is nothing to count.
-fn entry(first: Parity, measured: Option<[Counts; 2]>) -> [u8; ENTRY_BYTES] {
-    let nothing = Counts { busy: 0, total: 0 };
-    let [leading, trailing] = measured.unwrap_or([nothing; 2]);
-    let numbers = [
-        first as u64,
-        measured.is_some().into(),
-        leading.busy,
-        leading.total,
-        trailing.busy,
-        trailing.total,
-    ];
-    let mut bytes = [0; ENTRY_BYTES];
-    for (place, number) in bytes.chunks_mut(2).zip(numbers) {
-        let number = u16::try_from(number).expect("no field has more than MOST_BLOCKS");
-        place.copy_from_slice(&number.to_le_bytes());
-    }
-    bytes
+    let counts = |field| busy_blocks(luma, before, field);
+    Ok(Some([counts(first)?, counts(first.other())?]))
 }

@@ -1,6 +1,5 @@
 //! Headers, field orders, what is measured of pictures, and every refusal.
 
-use desk::GridNumbers;
 use desk::Parity::{self, Bottom, Top};
 
 use super::tape::{Header, reel_of};
@@ -48,16 +47,10 @@ fn each_format_has_its_depth_and_its_bytes() {
     ];
     for (format, depth, luma_bytes, chroma_bytes) in formats {
         let found = header(&format!(" W5 H3{format}")).expect(format);
-        let stride = luma_bytes as u32 / 3;
-        let (width, height) = (5, 3);
-        let grid = GridNumbers {
-            width,
-            height,
-            depth,
-            stride,
-        };
         let expected = Header {
-            grid,
+            width: 5,
+            height: 3,
+            depth,
             luma_bytes,
             chroma_bytes,
             order: None,
@@ -72,13 +65,8 @@ fn a_header_has_other_words_too() {
     let found =
         header(" W720 H486 F30000:1001 Ib A10:11 C422p10 XYSCSS=422P10 XCOLORRANGE=LIMITED");
     let found = found.expect("all are known");
-    let GridNumbers {
-        width,
-        height,
-        depth,
-        stride,
-    } = found.grid;
-    assert_eq!((width, height, depth, stride), (720, 486, 10, 1440));
+    assert_eq!((found.width, found.height, found.depth), (720, 486, 10));
+    assert_eq!(found.luma_bytes, 2 * 720 * 486);
     assert_eq!(found.order.as_deref(), Some("b"));
     let turned = header(" XW9 C422p10 A10:11 Ib H486 F30000:1001 W720");
     assert_eq!(turned.as_ref(), Ok(&found));
@@ -87,7 +75,7 @@ fn a_header_has_other_words_too() {
 /// 64 by 16, so that a field has four blocks; every row of a field is one level.
 fn picture(format: &str, top: u16, bottom: u16, chroma: u8) -> Vec<u8> {
     let found = header(&format!(" W64 H16 C{format}")).expect(format);
-    let wide = found.grid.depth > 8;
+    let wide = found.depth > 8;
     let mut bytes = Vec::new();
     for row in 0..16 {
         let code = if row % 2 == 0 { top } else { bottom };
