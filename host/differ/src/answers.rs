@@ -189,8 +189,7 @@ const MOST_TRIES: usize = 100_000;
 /// Answers that are refused with each number that a call can give.
 const REFUSED: usize = 6;
 
-/// So many answers of a call that get 0, and some of every other number. Fewer
-/// that get 0 where there are no more.
+/// So many answers of a call that get 0, and some of every other number.
 pub fn picked(
     call: &'static str,
     least: usize,
@@ -212,6 +211,8 @@ pub fn picked(
         *gave.entry(answer.gives).or_default() += 1;
         found.push(answer);
     }
+    let accepted = gave.get(&0).copied().unwrap_or(0);
+    assert_eq!(accepted, least, "answers of {call} that get 0");
     found
 }
 
