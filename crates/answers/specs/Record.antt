@@ -1,4 +1,4 @@
--- A record of the list that `replay` reads: four numbers at its head, its numbers, where each slice starts and how many bytes it has, then the
+-- A record of a list that `replay_..` reads: four numbers at its head, its numbers, where each slice starts and how many bytes it has, then the
 -- bytes of the slices. Numbers have eight bytes, low byte first; what is past the record's end counts as 0. Assumes nothing.
 use Prim.Native.Nat.{ℕ, zero, suc, _+_, _-_, _*_, _/_, _%_, _^_}
 use mathlib.Core.Bool.{Bool, true, cond, _&&_}

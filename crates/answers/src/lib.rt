@@ -1,4 +1,4 @@
-// A record of the list that the program `replay` reads: what one call is given, and what is expected
+// A record of the list that a program `replay_..` reads: what one call is given, and what is expected
 // of it. It is a head of four numbers (the record's bytes, the call, how many numbers there are, how
 // many slices), then the numbers, then for each slice where it starts in the record and how many bytes
 // it has, then the slices' bytes. Every number has eight bytes, low byte first. What a record lacks

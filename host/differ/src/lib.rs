@@ -6,7 +6,7 @@
 //! [`lent`] make its inputs and its buffers, [`judge`] says which number
 //! docs/RULES.md gives, and [`runs`] lists the runs, one for each call.
 //! [`program`] starts the program `cadence`, for the runs over whole reel files.
-//! [`answers`] makes the list that the program `replay` goes through. [`shots`]
+//! [`answers`] makes the lists that the programs `replay_..` go through. [`shots`]
 //! makes shots as they come to tape, and [`cuts`] puts them to both detectors.
 
 pub mod answers;

@@ -1,6 +1,6 @@
 //! The differential runs: every exported call is among the `calls` of one. A new
 //! one is a module below, with a [`Case`](crate::case::Case), a function that
-//! tallies and one that gives answers for the list of `replay`, and an entry here.
+//! tallies and one that gives answers for the lists of `replay_..`, and an entry here.
 
 use std::collections::BTreeSet;
 
@@ -40,7 +40,7 @@ pub struct Run {
     /// What is put to both sides.
     pub about: &'static str,
     pub run: fn(&mut Random) -> Result<Tally, Failure>,
-    /// Answers for the list of `replay`, with the store that it keeps.
+    /// Answers for the list of its archive's `replay_..`, with the store that it keeps.
     pub answers: fn(Random, &mut Vec<u8>) -> Vec<Answer>,
 }
 
