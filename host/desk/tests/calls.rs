@@ -17,7 +17,7 @@ const CHANGES: [(&str, &str, &str, &str); 12] = [
         "crates/weavedesk/src/lib.rt",
         "    pub luma_pitch: u32,\n    pub second_pitch: u32,",
         "    pub second_pitch: u32,\n    pub luma_pitch: u32,",
-        "crates/replay/src/calls/weavedesk_calls.rt is not what the exports make of it",
+        "crates/replay_weavedesk/src/calls.rt is not what the exports make of it",
     ),
     (
         "crates/desk/src/combs.rt",
@@ -38,10 +38,10 @@ const CHANGES: [(&str, &str, &str, &str); 12] = [
         "host/desk/src/calls.rs is not what the exports make of it",
     ),
     (
-        "crates/desk/src/combs.rt",
-        "fn desk_comb(",
-        "fn desk_combed(",
-        "no run has combed among its `calls`",
+        "host/differ/src/runs.rs",
+        "calls: &[\"comb\"],",
+        "calls: &[\"brush\"],",
+        "no run has comb among its `calls`",
     ),
     (
         "crates/filmdesk/src/lib.rt",
