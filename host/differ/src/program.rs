@@ -13,6 +13,13 @@ use crate::case::Difference;
 #[derive(Debug)]
 pub struct Program(Vec<String>);
 
+/// What a program left behind: on standard output, and on standard error.
+#[derive(Debug, Clone, PartialEq, Eq)]
+pub struct Ran {
+    pub printed: String,
+    pub told: String,
+}
+
 impl Program {
     /// A program and its arguments; at least the first of them.
     pub fn named(words: Vec<String>) -> Self {
@@ -29,11 +36,15 @@ impl Program {
 
     /// The program that the arguments name, or `cadence`.
     pub fn chosen() -> Result<Self, String> {
-        let named: Vec<String> = env::args().skip(1).collect();
-        if !named.is_empty() {
-            return Ok(Self(named));
+        Self::among(env::args().skip(1).collect())
+    }
+
+    /// The program that these words name, or `cadence` where there are none.
+    pub fn among(words: Vec<String>) -> Result<Self, String> {
+        if words.is_empty() {
+            return Self::built("cadence");
         }
-        Self::built("cadence")
+        Ok(Self(words))
     }
 
     /// The program of this name that the repository has built.
@@ -65,14 +76,19 @@ impl Program {
         Ok(Self(words.collect()))
     }
 
-    /// What it prints of a file. How it ends says nothing, so long as it ends
-    /// by itself.
+    /// What it prints of a file.
     pub fn printed(&self, file: &[u8]) -> Result<String, String> {
+        Ok(self.ran(file)?.printed)
+    }
+
+    /// What it prints and what it tells of a file. How it ends says nothing, so
+    /// long as it ends by itself.
+    pub fn ran(&self, file: &[u8]) -> Result<Ran, String> {
         let mut child = self
             .command()
             .stdin(Stdio::piped())
             .stdout(Stdio::piped())
-            .stderr(Stdio::null())
+            .stderr(Stdio::piped())
             .spawn()
             .map_err(|error| format!("{} does not start: {error}", self.0[0]))?;
         let stdin = child.stdin.take();
@@ -92,10 +108,14 @@ impl Program {
             })
         };
         let output = output.map_err(|error| format!("it cannot be waited for: {error}"))?;
-        let text = String::from_utf8_lossy(&output.stdout).into_owned();
+        let text = |bytes: &[u8]| String::from_utf8_lossy(bytes).into_owned();
+        let ran = Ran {
+            printed: text(&output.stdout),
+            told: text(&output.stderr),
+        };
         match output.status.code() {
-            Some(_) => Ok(text),
-            None => Err(format!("it was ended by a signal, after: {text}")),
+            Some(_) => Ok(ran),
+            None => Err(format!("it was ended by a signal, after: {}", ran.printed)),
         }
     }
 

@@ -33,13 +33,12 @@ fn the_example_comes_out_byte_for_byte() {
     assert_eq!(listing(&bytes), EXAMPLE);
 }
 
-/// The files that the repository ships: the small example, and the long one with
-/// which `cadence` is run by the gate, whose listing is this reader's.
+/// The file with which `cadence` is run by the gate, whose listing is this
+/// reader's.
 #[test]
-fn the_shipped_reels_are_these() {
+fn the_long_reel_is_this() {
     let top = Path::new(env!("CARGO_MANIFEST_DIR")).join("../..");
     let shipped = |path: &str| fs::read(top.join(path)).expect(path);
-    assert_eq!(listing(&shipped("docs/example.reel")), EXAMPLE);
     let long = Reel::long().bytes();
     assert!(65_536 < long.len());
     assert!(shipped("crates/cadence/stdin") == long);

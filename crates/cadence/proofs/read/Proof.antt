@@ -1,5 +1,6 @@
 -- `cadence::read` meets its contract. Assumes nothing.
 use Prim.Native.Nat.{_-_}
+use native.Mathlib.Omega.{arith}
 use mathlib.Core.Path.{sym}
 use lib.ListN.{length}
 use borrow.Rule.Slice.PartMut.{take-put}
@@ -22,11 +23,11 @@ part-part-end c = search needs
 read-requires : tie.Need-read-requires
 read-requires c κs = search needs
 
-slice-aggregate-write-all : tie.Need-slice-aggregate-write-all
-slice-aggregate-write-all c = search needs
+slice-aggregate-tell : tie.Need-slice-aggregate-tell
+slice-aggregate-tell c = search needs
 
-write-all-requires : tie.Need-write-all-requires
-write-all-requires c κs = search needs
+tell-requires : tie.Need-tell-requires
+tell-requires c κs = search needs
 
 count-requires : tie.Need-count-requires
 count-requires c κs = search needs
@@ -39,7 +40,7 @@ returns c =
     let called = c .before .before .before .before .before .before .before in
     let start = called .before .before .before .least in
     let buffer = called .before .before .before .before .before .args .buffer .now in
-    rw (sym (start .ensures .0)) (take-put (start .result) (length buffer - start .result) buffer (called .read .last .1 .0) (start .ensures .1))
+    (omega (arith, c .before .before .count .ensures .0 .0, called .read .kept .1 .0, start .ensures .0), rw (sym (start .ensures .0)) (take-put (start .result) (length buffer - start .result) buffer (called .read .last .1 .0) (start .ensures .1)))
 
 pub read-spec : {M : Type 1} → statement M
 read-spec =
@@ -50,8 +51,8 @@ read-spec =
     part-part-start
     part-part-end
     read-requires
-    slice-aggregate-write-all
-    write-all-requires
+    slice-aggregate-tell
+    tell-requires
     count-requires
     same-length
     returns)

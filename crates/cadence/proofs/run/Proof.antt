@@ -30,12 +30,6 @@ slice-aggregate-step-3 c = search needs
 step-requires : tie.Need-step-requires Inv-loop μ-loop
 step-requires c κs = search needs
 
-stops-requires : tie.Need-stops-requires Inv-loop μ-loop
-stops-requires c κs = search needs
-
-returns : tie.Need-returns Inv-loop μ-loop
-returns c = search needs
-
 slice-aggregate-answered : tie.Need-slice-aggregate-answered Inv-loop μ-loop
 slice-aggregate-answered c = search needs
 
@@ -45,11 +39,14 @@ slice-aggregate-answered-2 c = search needs
 answered-requires : tie.Need-answered-requires Inv-loop μ-loop
 answered-requires c κs = search needs
 
+returns : tie.Need-returns Inv-loop μ-loop
+returns c = search needs
+
 sub-turns : tie.Need-sub-turns Inv-loop μ-loop
-sub-turns c = search needs
+sub-turns c = omega (arith, c .before .before .before .before .before .before .before .before .before .before .before .before .before .before .before .loop-test .taken)
 
 loop-less : tie.Need-loop-less Inv-loop μ-loop
-loop-less c = omega arith
+loop-less c = omega (arith, c .before .before .before .before .before .before .before .before .before .before .before .before .before .before .before .loop-test .taken)
 
 loop-again : tie.Need-loop-again Inv-loop μ-loop
 loop-again c = search needs
@@ -69,11 +66,10 @@ run-spec =
     slice-aggregate-step-2
     slice-aggregate-step-3
     step-requires
-    stops-requires
-    returns
     slice-aggregate-answered
     slice-aggregate-answered-2
     answered-requires
+    returns
     sub-turns
     loop-less
     loop-again

@@ -31,6 +31,9 @@ const FILMS: [(&str, &[u8]); 2] = [
     ("pan", include_bytes!("../../data/pan.reel")),
 ];
 
+/// What ./run lists.
+const EXAMPLE: &[u8] = include_bytes!("../../../../docs/example.reel");
+
 /// The counts and the shape of a film's file; only pictures come after them.
 const HEAD_BYTES: usize = 2 + 10 + 2 + 2;
 
@@ -59,6 +62,15 @@ impl Splice {
         }
     }
 }
+
+/// The example is this one, as long as one of the films. Its first two frames
+/// after the cut fit the old step.
+const SHIPPED: Splice = Splice {
+    first: 0,
+    cut: 30,
+    second: 1,
+    offset: 2,
+};
 
 const OFFSETS: usize = 5;
 
@@ -141,6 +153,10 @@ fn all(program: &Program) -> Result<(), String> {
         let lock = LOCKS_AT[1];
         println!("film {name}: {frames} frames, locked from frame {lock} to the end");
     }
+    let frames = pictures(EXAMPLE).len();
+    check(program, EXAMPLE, &expected_of_splice(&SHIPPED, frames))
+        .map_err(|difference| format!("docs/example.reel: {difference}"))?;
+    println!("docs/example.reel: {frames} frames, as expected of its splice");
     println!("a splice of the two: lost at this frame, locked again from that one to the end");
     let (mut after_lost, mut after_splice) = (0, 0);
     for splices in splices().chunks(OFFSETS) {
@@ -192,7 +208,10 @@ fn main() -> ExitCode {
 
 #[cfg(test)]
 mod tests {
-    use super::{FILMS, Reel, SHAPE, expected_of_film, expected_of_splice, pictures, splices};
+    use super::{
+        EXAMPLE, FILMS, Reel, SHAPE, SHIPPED, expected_of_film, expected_of_splice, pictures,
+        splices,
+    };
     use reader::listing;
 
     #[test]
@@ -206,6 +225,25 @@ mod tests {
             assert_eq!(reel.pictures.len(), 60, "{name}");
             assert!(reel.bytes() == file, "{name}");
             assert_eq!(listing(file), expected_of_film(60), "{name}");
+        }
+    }
+
+    /// It has a lock, loses it and has one again.
+    #[test]
+    fn the_example_is_a_splice_of_the_films() {
+        let mut reel = SHIPPED.reel();
+        reel.pictures.truncate(60);
+        assert!(reel.bytes() == EXAMPLE);
+        let text = listing(EXAMPLE);
+        assert_eq!(text, expected_of_splice(&SHIPPED, 60));
+        for line in [
+            "9 none 0",
+            "10 whole 1",
+            "31 whole 1",
+            "32 none 0",
+            "43 whole 1",
+        ] {
+            assert!(text.lines().any(|found| found == line), "{line}: {text}");
         }
     }
 

@@ -1,19 +1,24 @@
 //! Makes reel files, good and damaged, and compares what the program `cadence`
-//! prints of each with the listing of the second reader (crate `reader`).
+//! prints of each with the listing of the second reader (crate `reader`). On
+//! standard error it has to say why it refuses a file, and nothing of another.
 //!
 //!     reels                   target/bin/cadence, started as ./run starts it
+//!     reels --whole           all files, where else a part of three kinds is made
 //!     reels PROGRAM ARGUMENT  another program
 //!
-//! Prints the seed and a line for each kind of file. Ends with 1 at the first
-//! difference, after the smallest file that shows it; with 2 where there is no
-//! program to start.
+//! A process is started for each file, two or more at a time, by as many threads
+//! as there are processors. Prints the seed and a line for each kind of file.
+//! Ends with 1 at the first difference, after the smallest file that shows it;
+//! with 2 where there is no program to start.
 
+use std::env;
 use std::fmt;
 use std::process::ExitCode;
-use std::rc::Rc;
+use std::sync::Arc;
+use std::thread;
 
-use differ::case::{Case, Difference, Failure, Least, Tally, smaller_numbers};
-use differ::program::Program;
+use differ::case::{Case, Difference, Failure, Least, Tally, same, smaller_numbers};
+use differ::program::{Program, same_lines};
 use differ::random::{self, Random, SEED_VARIABLE};
 use reader::reel::{Entry, Reel};
 
@@ -23,7 +28,7 @@ use reader::reel::{Entry, Reel};
 #[derive(Clone)]
 struct File {
     bytes: Vec<u8>,
-    program: Rc<Program>,
+    program: Arc<Program>,
 }
 
 impl fmt::Debug for File {
@@ -39,10 +44,19 @@ impl fmt::Debug for File {
 impl Case for File {
     fn compare(&self) -> Result<u8, Difference> {
         let wanted = reader::listing(&self.bytes);
-        self.program.prints(&self.bytes, &wanted)?;
+        let ran = self.program.ran(&self.bytes);
+        let ran = ran.map_err(|fault| Difference::new("how it ends", fault, "a listing"))?;
+        same_lines(&ran.printed, &wanted)?;
         let last = wanted.lines().last().unwrap_or_default();
-        let number = last.strip_prefix("refused ");
-        Ok(number.map_or(0, |number| number.parse().expect("a number")))
+        let Some(number) = last.strip_prefix("refused ") else {
+            same("what is told", ran.told.as_str(), "")?;
+            return Ok(0);
+        };
+        let told = format!("cadence: refused with {number}: ");
+        if !ran.told.starts_with(&told) || ran.told.lines().count() != 1 {
+            return Err(Difference::new("what is told", ran.told, told));
+        }
+        Ok(number.parse().expect("a number"))
     }
 
     /// Without a stretch of it, the longest first; then with a smaller byte.
@@ -77,6 +91,14 @@ impl Case for File {
 }
 
 // ---- Files of each kind
+
+/// How many there are: of each kind a part, for the gate, or all of them. Of some
+/// kinds, the cuts among them, the part is the whole.
+#[derive(Debug, Clone, Copy, PartialEq, Eq)]
+enum Amount {
+    Part,
+    Whole,
+}
 
 /// One entry and two pictures, of 8 bits.
 fn small() -> Reel {
@@ -131,8 +153,8 @@ fn cuts() -> Vec<Vec<u8>> {
     files
 }
 
-/// Every byte of a small reel with each value; of the others, with some.
-fn bytes() -> Vec<Vec<u8>> {
+/// Every byte of small reels with some values; of one, with each.
+fn bytes(amount: Amount) -> Vec<Vec<u8>> {
     let mut files = Vec::new();
     let mut each = |reel: Reel, values: &[u8]| {
         let bytes = reel.bytes();
@@ -144,12 +166,22 @@ fn bytes() -> Vec<Vec<u8>> {
             }
         }
     };
-    let every: Vec<u8> = (0..=u8::MAX).collect();
-    each(small(), &every);
-    for reel in each_small() {
-        each(reel, &[0, 1, 2, 5, 6, 16, 127, 128, 254, 255]);
+    match amount {
+        Amount::Part => {
+            for reel in each_small() {
+                each(reel, &[0, 1, 5, 6, 128, 255]);
+            }
+            each(Reel::example(), &[1, 255]);
+        }
+        Amount::Whole => {
+            let every: Vec<u8> = (0..=u8::MAX).collect();
+            each(small(), &every);
+            for reel in each_small() {
+                each(reel, &[0, 1, 2, 5, 6, 16, 127, 128, 254, 255]);
+            }
+            each(Reel::example(), &[0, 1, 2, 255]);
+        }
     }
-    each(Reel::example(), &[0, 1, 2, 255]);
     files
 }
 
@@ -251,16 +283,19 @@ fn faults(reel: &Reel) -> Vec<Fault> {
     faults
 }
 
-/// Every fault alone and with every other, in a reel of three entries and two
-/// pictures.
-fn pairs() -> Vec<Vec<u8>> {
+/// Every fault alone and with every other, or every fifth, in a reel of three
+/// entries and two pictures.
+fn pairs(amount: Amount) -> Vec<Vec<u8>> {
     let mut reel = small();
     reel.entries.insert(0, entry(0, 0, [9; 4]));
     reel.entries.push(entry(1, 1, [40, 40, 0, 40]));
     let faults = faults(&reel);
     let mut files = Vec::new();
     for (at, first) in faults.iter().enumerate() {
-        for second in &faults[at..] {
+        for (other, second) in faults.iter().enumerate().skip(at) {
+            if amount == Amount::Part && at != other && (at + other) % 5 != 0 {
+                continue;
+            }
             let mut raw = Raw::of(reel.clone());
             first(&mut raw);
             second(&mut raw);
@@ -449,28 +484,49 @@ fn longest(random: &mut Random) -> Vec<Vec<u8>> {
 
 // ---- All of them
 
-fn all(program: &Rc<Program>, seed: u64) -> Result<(), Failure> {
-    let run = |name, (accepted, refused), files: &mut dyn Iterator<Item = Vec<u8>>| {
+fn all(program: &Arc<Program>, seed: u64, amount: Amount) -> Result<(), Failure> {
+    let threads = thread::available_parallelism().map_or(1, usize::from);
+    let mut compared = 0;
+    let mut run = |name: &'static str,
+                   (accepted, refused): (u64, u64),
+                   files: &mut (dyn Iterator<Item = Vec<u8>> + Send)|
+     -> Result<(), Failure> {
         let files = files.map(|bytes| File {
             bytes,
             program: program.clone(),
         });
-        let tally = Tally::of(name, Least { accepted, refused }, files)?;
+        let tally = Tally::by_threads(name, Least { accepted, refused }, files, threads)?;
         println!("{tally}");
+        compared += tally.compared();
         Ok(())
     };
     let mut for_films = Random::for_run(seed, "films");
     let mut for_longest = Random::for_run(seed, "longest");
+    // With each kind, the fewest that are accepted and refused.
     run("cuts", (6, 300), &mut cuts().into_iter())?;
-    run("bytes", (4_000, 5_000), &mut bytes().into_iter())?;
-    run("pairs", (5, 2_000), &mut pairs().into_iter())?;
-    run("films", (5_000, 2_000), &mut films(&mut for_films, 8_000))?;
+    let least = match amount {
+        Amount::Part => [(500, 400), (5, 400), (400, 150)],
+        Amount::Whole => [(4_000, 5_000), (5, 2_000), (5_000, 2_000)],
+    };
+    let count = match amount {
+        Amount::Part => 600,
+        Amount::Whole => 8_000,
+    };
+    run("bytes", least[0], &mut bytes(amount).into_iter())?;
+    run("pairs", least[1], &mut pairs(amount).into_iter())?;
+    run("films", least[2], &mut films(&mut for_films, count))?;
     let longest = longest(&mut for_longest);
-    run("longest", (3, 0), &mut longest.into_iter())
+    run("longest", (3, 0), &mut longest.into_iter())?;
+    println!("{compared} files, each in a process of its own, {threads} at a time");
+    Ok(())
 }
 
 fn main() -> ExitCode {
-    let chosen = random::seed().and_then(|seed| Ok((seed, Program::chosen()?)));
+    let mut words: Vec<String> = env::args().skip(1).collect();
+    let whole = words.first().is_some_and(|word| word == "--whole");
+    let amount = if whole { Amount::Whole } else { Amount::Part };
+    words.drain(..usize::from(whole));
+    let chosen = random::seed().and_then(|seed| Ok((seed, Program::among(words)?)));
     let (seed, program) = match chosen {
         Ok(chosen) => chosen,
         Err(complaint) => {
@@ -479,7 +535,7 @@ fn main() -> ExitCode {
         }
     };
     println!("seed {seed} (another by {SEED_VARIABLE})");
-    match all(&Rc::new(program), seed) {
+    match all(&Arc::new(program), seed, amount) {
         Ok(()) => ExitCode::SUCCESS,
         Err(failure) => {
             println!("{failure}");

@@ -1,0 +1,2 @@
+-- The claims. Assumes nothing.
+pub mod Claims

@@ -1,0 +1,20 @@
+-- What a turn of the program's loop leaves, by what the step before asked for. Assumes nothing.
+use Prim.Native.Nat.{ℕ, _-_, _≤_}
+use mathlib.Core.Path.{_≡_}
+use mathlib.Core.Bool.{Bool, true, false}
+use Rattle.pages.specs.declared.Ask.{Ask}
+use Rattle.pages.specs.declared.Ask.the-variants.{Unit, Read, Write, Stop}
+use Rattle.listing.specs.declared.Lister.{Lister}
+use Rattle.listing.specs.Steps.{cameLister}
+use Rattle.cadence.specs.declared.Turn.{Turn}
+
+abbrev pub doneWith : Lister → Bool → Turn
+doneWith lister on = record { lister = lister; on = on }
+
+-- After a read so many bytes came as the system says, no more than a buffer of that size has room for; nothing else changes what the program holds. It
+-- goes on until the listing is complete, or a write failed.
+abbrev pub Answers : Ask → Lister → ℕ → Turn → Type 0
+Answers Unit after size t = t ≡ doneWith after true
+Answers (Read from) after size t = (n : ℕ) × (n ≤ size - from) × (t ≡ doneWith (cameLister after size n) true)
+Answers (Write n) after size t = (written : Bool) × (t ≡ doneWith after written)
+Answers Stop after size t = t ≡ doneWith after false
