@@ -7,7 +7,7 @@
 // SAFETY, of every call below: the proved code takes every number and every byte, reads at most what it is lent for reading and
 // writes at most what it is lent for writing. Each pointer goes with its own length, and what is lent for writing is the
 // caller's alone while the call lasts, as `&mut` says.
-#![allow(clippy::too_many_arguments, clippy::missing_safety_doc)]
+#![allow(clippy::too_many_arguments)]
 
 /// The nine numbers of a conversion, each within -16 to 16, `kr` and `kb` within 0 to 0.4375. Offsets and
 /// gains are of values by the largest code of their depth. `luma_lift`, `chroma_cos` and `chroma_sin` are
