@@ -505,7 +505,7 @@ fn all(program: &Arc<Program>, seed: u64, amount: Amount) -> Result<(), Failure>
     // With each kind, the fewest that are accepted and refused.
     run("cuts", (6, 300), &mut cuts().into_iter())?;
     let least = match amount {
-        Amount::Part => [(500, 400), (5, 400), (400, 150)],
+        Amount::Part => [(500, 400), (3, 400), (350, 130)],
         Amount::Whole => [(4_000, 5_000), (5, 2_000), (5_000, 2_000)],
     };
     let count = match amount {
