@@ -11,8 +11,8 @@ use Rattle.cadence.specs.declared.Turn.{Turn}
 abbrev pub doneWith : Lister → Bool → Turn
 doneWith lister on = record { lister = lister; on = on }
 
--- After a read so many bytes came as the system says, no more than a buffer of that size has room for; nothing else changes what the program holds. It
--- goes on until the listing is complete, or a write failed.
+-- After a read some bytes came, no more than a buffer of that size has room for; nothing else changes what the program holds. It stops where the listing is
+-- complete, and where a write says so. How many bytes came and whether a write failed is the system's to say, and no definition knows it.
 abbrev pub Answers : Ask → Lister → ℕ → Turn → Type 0
 Answers Unit after size t = t ≡ doneWith after true
 Answers (Read from) after size t = (n : ℕ) × (n ≤ size - from) × (t ≡ doneWith (cameLister after size n) true)

@@ -1,8 +1,8 @@
 //! Made by tools/calls from the exports; not to be changed by hand.
 //!
 //! Every exported call by its own name without `desk_`, with the numbers and slices that it takes and the number that it gives: 0
-//! for done, and otherwise the lowest refusal that applies (docs/RULES.md, "What the desk gets back"). The functions beside this
-//! module have enums, values and [`Refusal`](crate::Refusal)s instead of numbers.
+//! for done, and otherwise the lowest refusal that applies (docs/RULES.md, "What the desk gets back"). A call that refuses nothing
+//! gives its answer. The functions beside this module have enums, values and [`Refusal`](crate::Refusal)s instead of numbers.
 
 // SAFETY, of every call below: the proved code takes every number and every byte, reads at most what it is lent for reading and
 // writes at most what it is lent for writing. Each pointer goes with its own length, and what is lent for writing is the

@@ -55,19 +55,21 @@ impl Detector {
     /// Takes the luma of a frame led by `first`, compares it with the one before and keeps it.
     /// Refused with 4, with 6, and with 9 after 4,000,000,000 frames.
     pub fn push(&mut self, first: Parity, picture: Lines<'_>) -> Result<Cadence, Refusal> {
-        let samples = picture.samples();
-        if self.store.len() < samples {
-            self.store.resize(samples, 0);
-        }
+        let had = self.store.len();
+        self.store.resize(had.max(picture.samples()), 0);
         let mut cadence = 0;
-        Refusal::check(calls::detector_push(
+        let number = calls::detector_push(
             &mut self.state,
             first as u8,
             picture.bytes,
             picture.grid(),
             &mut self.store,
             &mut cadence,
-        ))?;
+        );
+        if number != 0 {
+            self.store.truncate(had);
+        }
+        Refusal::check(number)?;
         Ok(Cadence::named(cadence))
     }
 
@@ -154,6 +156,17 @@ mod tests {
                 let short = Lines::packed(&bytes[1..], 64, 16, 8);
                 let short = detector.push(Top, short);
                 assert_eq!(short.map_err(Refusal::number), Err(6));
+                // Room is made for these, and taken back.
+                let shallow = Lines::packed(&bytes, 16, 64 * 16 / 16, 7);
+                let shallow = detector.push(Top, shallow);
+                assert_eq!(shallow.map_err(Refusal::number), Err(4));
+                let twice = [&bytes[..], &bytes].concat();
+                let padded = Lines {
+                    stride: 65,
+                    ..Lines::packed(&twice[1..], 64, 32, 8)
+                };
+                let padded = detector.push(Top, padded);
+                assert_eq!(padded.map_err(Refusal::number), Err(6));
                 let large = Lines::packed(&bytes, u32::MAX, u32::MAX, 8);
                 let large = detector.push(Top, large);
                 assert_eq!(large.map_err(Refusal::number), Err(4));

@@ -48,7 +48,7 @@
 //!
 //! A call is done, or it is refused with the lowest number that applies, and then nothing was
 //! written and no state changed: it may be made again with better bytes. [`Refusal`] has the number
-//! and says it in words. Those that more than one function here gives mean the same everywhere:
+//! and says it in words. These mean the same everywhere; each function says what else it gives:
 //!
 //! - 4: a width, height, depth or stride is out of its bounds, which stand beside each field of
 //!   [`Plane`] and [`Lines`];

@@ -139,14 +139,13 @@ impl Weaver {
         time: Option<i64>,
         field: Field<'_>,
     ) -> Result<Option<WovenPicture>, Refusal> {
+        let had = self.store.len();
         let needed = field.packed_bytes().iter().sum();
-        if self.store.len() < needed {
-            self.store.resize(needed, 0);
-        }
+        self.store.resize(had.max(needed), 0);
         let mut woven = field.woven_room();
         let [luma, cb, cr] = &mut woven;
         let (mut picture, mut earlier_timed, mut earlier_time) = (0, 0, 0);
-        Refusal::check(calls::weaver_push(
+        let number = calls::weaver_push(
             &mut self.state,
             parity as u8,
             time.is_some().into(),
@@ -162,7 +161,11 @@ impl Weaver {
             &mut picture,
             &mut earlier_timed,
             &mut earlier_time,
-        ))?;
+        );
+        if number != 0 {
+            self.store.truncate(had);
+        }
+        Refusal::check(number)?;
         Ok((picture == 1).then_some(WovenPicture {
             planes: woven,
             time: (earlier_timed == 1).then_some(earlier_time),

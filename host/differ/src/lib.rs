@@ -4,7 +4,7 @@
 //!
 //! [`case`] is the frame of a run, [`random`], [`plane`], [`given`] and
 //! [`lent`] make its inputs and its buffers, [`judge`] says which number
-//! docs/RULES.md gives, and [`runs`] lists the runs, one for each call.
+//! docs/RULES.md gives, and [`runs`] lists the runs; every call is among one's.
 //! [`program`] starts the program `cadence`, for the runs over whole reel files.
 //! [`answers`] makes the lists that the programs `replay_..` go through. [`shots`]
 //! makes shots as they come to tape, and [`cuts`] puts them to both detectors.

@@ -997,7 +997,7 @@ pub fn many(random: &mut Random) -> Result<Tally, Failure> {
 
 // ---- Answers
 
-/// The Rust's detector alone, and what the program `replay` has to find: its
+/// The Rust's detector alone, and what the program `replay_filmdesk` has to find: its
 /// store goes on from one detector to the next.
 struct Recorder {
     rust: Detector,

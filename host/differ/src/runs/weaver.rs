@@ -637,7 +637,7 @@ pub fn run(random: &mut Random) -> Result<Tally, Failure> {
 
 // ---- Answers
 
-/// The Rust's weaver alone, and what the program `replay` has to find: its store
+/// The Rust's weaver alone, and what the program `replay_weavedesk` has to find: its store
 /// goes on from one weaver to the next.
 struct Recorder {
     rust: Weaver,
