@@ -382,7 +382,7 @@ fn shop() -> Vec<Contest> {
             weaves::readback(size, 8, 2),
             planes::comb(size, 8),
             films::busy(size, 8),
-            films::push(size, 8),
+            films::push(size, 8).at_size(format!("{size}, 8 bits")),
             planes::whole(size, 1, PLAIN),
             planes::whole(size, 2, PLAIN),
             planes::whole(size, 3, PLAIN),
@@ -448,7 +448,7 @@ fn print_table(contests: Vec<Contest>) {
 /// Of a frame, also where a round has more.
 fn print_shop(contests: Vec<Contest>) {
     println!(
-        "{:<13} {:<24} {:>9} {:>9} {:>7}",
+        "{:<13} {:<27} {:>9} {:>9} {:>7}",
         "call", "a frame of", "Rattle", "Rust", "ratio"
     );
     for contest in contests {
@@ -456,7 +456,7 @@ fn print_shop(contests: Vec<Contest>) {
         let input = contest.input.clone();
         let best = contest.best(&TABLE);
         println!(
-            "{call:<13} {input:<24} {:>9} {:>9} {:>7}",
+            "{call:<13} {input:<27} {:>9} {:>9} {:>7}",
             shown(Some(best.rattle / frames)),
             shown(best.rust.map(|rust| rust / frames)),
             best.ratio(best.rust),
