@@ -114,7 +114,7 @@ pub fn push(size: Size, depth: u32) -> Contest {
             inlined: None,
         }
     };
-    Contest::new("detector_push", input, (2 * size.pixels(), "pixel"), sides)
+    Contest::new("detector_push", input, (2 * size.pixels(), "pixel"), sides).of_frames(2)
 }
 
 /// A film that keeps to the pattern, but for one frame in fifty.

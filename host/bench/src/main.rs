@@ -5,6 +5,7 @@
 //!     bench sample            these calls
 //!     bench --grow            every call at four sizes
 //!     bench --grow sample     these calls at four sizes
+//!     bench --shop            what a shop does to a frame, at two sizes of tape
 //!
 //! A new call is one more [`Contest`] in `contests`, and four in `growth`.
 
@@ -116,6 +117,8 @@ struct Contest {
     /// What the work of a side is counted in, and how much that is.
     unit: &'static str,
     units: u64,
+    /// How many frames a round has, where it is of frames.
+    frames: u32,
     /// Made when its turn comes, so that one contest's memory is not another's
     /// burden.
     sides: Box<dyn FnOnce() -> Sides>,
@@ -134,12 +137,17 @@ impl Contest {
             beside: "",
             unit,
             units,
+            frames: 1,
             sides: Box::new(sides),
         }
     }
 
     fn beside(self, beside: &'static str) -> Self {
         Self { beside, ..self }
+    }
+
+    fn of_frames(self, frames: u32) -> Self {
+        Self { frames, ..self }
     }
 
     /// The size alone, where sizes are all that differs.
@@ -227,6 +235,7 @@ impl fmt::Display for Size {
 }
 
 const FULL: Size = Size::new(1920, 1080);
+const STANDARD: Size = Size::new(720, 486);
 
 /// How the samples of a plane lie: 8 bits, or the luma of a biplanar frame of
 /// 10 bits.
@@ -365,6 +374,26 @@ fn growth() -> Vec<Contest> {
     all
 }
 
+/// What a shop does to a frame of 8 bits, at two sizes of tape.
+fn shop() -> Vec<Contest> {
+    let of = |size| {
+        [
+            weaves::weave(size, 8),
+            weaves::readback(size, 8, 2),
+            planes::comb(size, 8),
+            films::busy(size, 8),
+            films::push(size, 8).at_size(format!("{size}, 8 bits")),
+            planes::whole(size, 1, PLAIN),
+            planes::whole(size, 2, PLAIN),
+            planes::whole(size, 3, PLAIN),
+            pictures::picture(size, 0, 8, false),
+            pictures::picture(size, 2, 8, false),
+            pictures::picture(size, 3, 8, false),
+        ]
+    };
+    [STANDARD, FULL].into_iter().flat_map(of).collect()
+}
+
 /// A plane of noise without padding, and its shape by numbers.
 fn plane_of(seed: u64, size: Size, (depth, layout): (u32, u32)) -> (Plane, PlaneNumbers) {
     let Size { width, height } = size;
@@ -395,7 +424,7 @@ fn taken(number: u8) {
     assert_eq!(number, 0, "an input of the benchmark is refused");
 }
 
-fn print_table(contests: impl Iterator<Item = Contest>) {
+fn print_table(contests: Vec<Contest>) {
     println!(
         "{:<22} {:<32} {:>9} {:>9} {:>7} {:>9} {:>7}",
         "call", "input", "Rattle", "Rust", "ratio", "inlined", "ratio"
@@ -416,7 +445,26 @@ fn print_table(contests: impl Iterator<Item = Contest>) {
     }
 }
 
-fn print_growth(contests: impl Iterator<Item = Contest>) {
+/// Of a frame, also where a round has more.
+fn print_shop(contests: Vec<Contest>) {
+    println!(
+        "{:<13} {:<27} {:>9} {:>9} {:>7}",
+        "call", "a frame of", "Rattle", "Rust", "ratio"
+    );
+    for contest in contests {
+        let (call, frames) = (contest.call, contest.frames);
+        let input = contest.input.clone();
+        let best = contest.best(&TABLE);
+        println!(
+            "{call:<13} {input:<27} {:>9} {:>9} {:>7}",
+            shown(Some(best.rattle / frames)),
+            shown(best.rust.map(|rust| rust / frames)),
+            best.ratio(best.rust),
+        );
+    }
+}
+
+fn print_growth(contests: Vec<Contest>) {
     println!(
         "{:<22} {:<20} {:>9} {:>9} {:>7} {:>10} {:>10}",
         "call", "size", "Rattle", "Rust", "ratio", "Rattle, ns", "Rust, ns"
@@ -448,15 +496,15 @@ fn main() {
     }
     let (flags, calls): (Vec<String>, Vec<String>) =
         env::args().skip(1).partition(|word| word.starts_with('-'));
-    let grow = match &flags[..] {
-        [] => false,
-        [flag] if flag == "--grow" => true,
+    let (mut contests, print): (_, fn(Vec<Contest>)) = match &flags[..] {
+        [] => (contests(), print_table),
+        [flag] if flag == "--grow" => (growth(), print_growth),
+        [flag] if flag == "--shop" => (shop(), print_shop),
         _ => {
-            eprintln!("bench: {flags:?}: expected no flag, or --grow");
+            eprintln!("bench: {flags:?}: expected no flag, --grow or --shop");
             std::process::exit(2);
         }
     };
-    let contests = if grow { growth() } else { contests() };
     if let Some(call) = calls
         .iter()
         .find(|call| contests.iter().all(|contest| contest.call != **call))
@@ -464,14 +512,8 @@ fn main() {
         eprintln!("bench: there is no call {call}");
         std::process::exit(2);
     }
-    let chosen = contests
-        .into_iter()
-        .filter(|contest| calls.is_empty() || calls.iter().any(|call| call == contest.call));
-    if grow {
-        print_growth(chosen);
-    } else {
-        print_table(chosen);
-    }
+    contests.retain(|contest| calls.is_empty() || calls.iter().any(|call| call == contest.call));
+    print(contests);
 }
 
 /// Whether this program runs under an emulator. Qemu says so itself, also for

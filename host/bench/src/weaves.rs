@@ -41,7 +41,7 @@ fn plane(seed: u64, lines: LinesNumbers) -> Plane {
 /// The shape of a field of a frame of this size, and two fields of noise.
 fn two_fields(size: Size, depth: u32) -> (FieldNumbers, [Frame; 2]) {
     let luma = lines(size.width, size.height / 2, depth);
-    let chroma = lines(size.width / 2, size.height / 4, depth);
+    let chroma = lines(luma.width.div_ceil(2), luma.height.div_ceil(2), depth);
     let shape = FieldNumbers {
         luma,
         cb: chroma,
