@@ -1,5 +1,6 @@
 -- Made by tools/calls; not to be changed by hand.
 -- Of each public function, that its contract leaves one answer. Assumes nothing.
+pub mod Law
 pub mod Answers
 pub mod Block
 pub mod Colour
@@ -12,7 +13,6 @@ pub mod Fill
 pub mod Filmdesk
 pub mod Filter
 pub mod Float
-pub mod Law
 pub mod Listing
 pub mod Packed
 pub mod Pages

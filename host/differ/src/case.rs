@@ -5,8 +5,6 @@ use std::any::Any;
 use std::collections::{BTreeMap, BTreeSet};
 use std::fmt;
 use std::panic::{self, AssertUnwindSafe};
-use std::sync::Mutex;
-use std::thread;
 
 /// One input. It holds all that its comparison depends on, so that printing it
 /// is enough to repeat it: large inputs as a layout and a seed.
@@ -94,65 +92,21 @@ impl Tally {
         for case in cases {
             match judged(&case) {
                 Ok(number) => case.count(number, &mut numbers),
-                Err(difference) => return Err(Failure::of(name, case, difference)),
+                Err(difference) => {
+                    let (case, difference) = smallest(case, difference);
+                    return Err(Failure::Differs {
+                        name,
+                        case: format!("{case:?}"),
+                        difference,
+                    });
+                }
             }
         }
-        Self { name, numbers }.of_at_least(least)
-    }
-
-    /// As `of`, with so many threads, for cases that wait for other processes.
-    /// Each thread takes the next case; once there is a difference none takes
-    /// another, and of several the earliest is told.
-    pub fn by_threads<C: Case + Send>(
-        name: &'static str,
-        least: Least,
-        cases: impl Iterator<Item = C> + Send,
-        threads: usize,
-    ) -> Result<Self, Failure> {
-        struct Work<I, C> {
-            cases: I,
-            numbers: BTreeMap<u8, u64>,
-            differs: Vec<(usize, C, Difference)>,
+        let tally = Self { name, numbers };
+        if tally.accepted() < least.accepted || tally.refused() < least.refused {
+            return Err(Failure::TooFew { tally, least });
         }
-        let work = Mutex::new(Work {
-            cases: cases.enumerate(),
-            numbers: BTreeMap::new(),
-            differs: Vec::new(),
-        });
-        let locked = || {
-            work.lock()
-                .expect("no thread panics while it holds the work")
-        };
-        let next = || {
-            let mut work = locked();
-            work.differs.is_empty().then(|| work.cases.next()).flatten()
-        };
-        thread::scope(|scope| {
-            for _ in 0..threads {
-                scope.spawn(|| {
-                    while let Some((at, case)) = next() {
-                        match judged(&case) {
-                            Ok(number) => case.count(number, &mut locked().numbers),
-                            Err(difference) => locked().differs.push((at, case, difference)),
-                        }
-                    }
-                });
-            }
-        });
-        let Work {
-            numbers, differs, ..
-        } = work.into_inner().expect("as above");
-        match differs.into_iter().min_by_key(|(at, ..)| *at) {
-            Some((_, case, difference)) => Err(Failure::of(name, case, difference)),
-            None => Self { name, numbers }.of_at_least(least),
-        }
-    }
-
-    fn of_at_least(self, least: Least) -> Result<Self, Failure> {
-        if self.accepted() < least.accepted || self.refused() < least.refused {
-            return Err(Failure::TooFew { tally: self, least });
-        }
-        Ok(self)
+        Ok(tally)
     }
 
     /// Counts those of another part of the same run too.
@@ -221,18 +175,6 @@ pub enum Failure {
         tally: Tally,
         said: BTreeSet<u8>,
     },
-}
-
-impl Failure {
-    /// A difference, shown on the smallest case that is found.
-    fn of<C: Case>(name: &'static str, case: C, difference: Difference) -> Self {
-        let (case, difference) = smallest(case, difference);
-        Self::Differs {
-            name,
-            case: format!("{case:?}"),
-            difference,
-        }
-    }
 }
 
 impl fmt::Display for Failure {

@@ -79,22 +79,6 @@ fn wrong_code_is_caught_and_made_small() {
 }
 
 #[test]
-fn threads_count_the_same_and_tell_the_earliest_difference() {
-    let by_threads = |wrong_from, numbers: std::ops::Range<u64>, threads| {
-        let cases = numbers.map(|number| Doubled { number, wrong_from });
-        Tally::by_threads("doubled", LEAST, cases, threads)
-    };
-    for threads in [1, 2, 5] {
-        let tally = by_threads(u64::MAX, 0..3000, threads);
-        assert_eq!(tally, doubled(u64::MAX, 0..3000, LEAST));
-        let failure = by_threads(300, 0..3000, threads);
-        assert_eq!(failure, doubled(300, 900..1003, LEAST));
-        let failure = by_threads(u64::MAX, 0..9, threads);
-        assert_eq!(failure, doubled(u64::MAX, 0..9, LEAST));
-    }
-}
-
-#[test]
 fn smaller_numbers_close_in_on_a_number() {
     assert_eq!(smaller_numbers(0), []);
     assert_eq!(smaller_numbers(1), [0]);

@@ -2,20 +2,22 @@
 //! prints of each with the listing of the second reader (crate `reader`). On
 //! standard error it has to say why it refuses a file, and nothing of another.
 //!
-//!     reels                   target/bin/cadence, started as ./run starts it
-//!     reels --whole           all files, where else a part of three kinds is made
-//!     reels PROGRAM ARGUMENT  another program
+//!     reels                    every kind of file, to target/bin/cadence, started
+//!                              as ./run starts it
+//!     reels cuts films         these kinds: cuts, bytes, pairs, films, longest
+//!     reels --whole            all files; else of three kinds a part is made
+//!     reels .. PROGRAM WORDS   another program
 //!
-//! A process is started for each file, two or more at a time, by as many threads
-//! as there are processors. Prints the seed and a line for each kind of file.
-//! Ends with 1 at the first difference, after the smallest file that shows it;
-//! with 2 where there is no program to start.
+//! Prints the seed and a line for each kind of file. Ends with 1 at the first
+//! difference, after the smallest file that shows it; with 2 where there is no
+//! program to start. A process is started for each file, one after the other:
+//! under the emulator a start beside a thread can hang. Two processors are used by
+//! two calls, with other kinds.
 
 use std::env;
 use std::fmt;
 use std::process::ExitCode;
-use std::sync::Arc;
-use std::thread;
+use std::rc::Rc;
 
 use differ::case::{Case, Difference, Failure, Least, Tally, same, smaller_numbers};
 use differ::program::{Program, same_lines};
@@ -28,7 +30,7 @@ use reader::reel::{Entry, Reel};
 #[derive(Clone)]
 struct File {
     bytes: Vec<u8>,
-    program: Arc<Program>,
+    program: Rc<Program>,
 }
 
 impl fmt::Debug for File {
@@ -484,49 +486,46 @@ fn longest(random: &mut Random) -> Vec<Vec<u8>> {
 
 // ---- All of them
 
-fn all(program: &Arc<Program>, seed: u64, amount: Amount) -> Result<(), Failure> {
-    let threads = thread::available_parallelism().map_or(1, usize::from);
+const KINDS: [&str; 5] = ["cuts", "bytes", "pairs", "films", "longest"];
+
+fn all(program: &Rc<Program>, seed: u64, amount: Amount, kinds: &[String]) -> Result<(), Failure> {
+    let part = amount == Amount::Part;
     let mut compared = 0;
-    let mut run = |name: &'static str,
-                   (accepted, refused): (u64, u64),
-                   files: &mut (dyn Iterator<Item = Vec<u8>> + Send)|
-     -> Result<(), Failure> {
+    for kind in KINDS {
+        if !kinds.is_empty() && !kinds.iter().any(|name| name == kind) {
+            continue;
+        }
+        let mut random = Random::for_run(seed, kind);
+        // With the files, the fewest that are accepted and refused.
+        let (files, (accepted, refused)): (Box<dyn Iterator<Item = Vec<u8>>>, _) = match kind {
+            "cuts" => (Box::new(cuts().into_iter()), (6, 300)),
+            "bytes" if part => (Box::new(bytes(amount).into_iter()), (500, 400)),
+            "bytes" => (Box::new(bytes(amount).into_iter()), (4_000, 5_000)),
+            "pairs" if part => (Box::new(pairs(amount).into_iter()), (3, 400)),
+            "pairs" => (Box::new(pairs(amount).into_iter()), (5, 2_000)),
+            "films" if part => (Box::new(films(&mut random, 600)), (350, 130)),
+            "films" => (Box::new(films(&mut random, 8_000)), (5_000, 2_000)),
+            _ => (Box::new(longest(&mut random).into_iter()), (3, 0)),
+        };
         let files = files.map(|bytes| File {
             bytes,
             program: program.clone(),
         });
-        let tally = Tally::by_threads(name, Least { accepted, refused }, files, threads)?;
+        let tally = Tally::of(kind, Least { accepted, refused }, files)?;
         println!("{tally}");
         compared += tally.compared();
-        Ok(())
-    };
-    let mut for_films = Random::for_run(seed, "films");
-    let mut for_longest = Random::for_run(seed, "longest");
-    // With each kind, the fewest that are accepted and refused.
-    run("cuts", (6, 300), &mut cuts().into_iter())?;
-    let least = match amount {
-        Amount::Part => [(500, 400), (3, 400), (350, 130)],
-        Amount::Whole => [(4_000, 5_000), (5, 2_000), (5_000, 2_000)],
-    };
-    let count = match amount {
-        Amount::Part => 600,
-        Amount::Whole => 8_000,
-    };
-    run("bytes", least[0], &mut bytes(amount).into_iter())?;
-    run("pairs", least[1], &mut pairs(amount).into_iter())?;
-    run("films", least[2], &mut films(&mut for_films, count))?;
-    let longest = longest(&mut for_longest);
-    run("longest", (3, 0), &mut longest.into_iter())?;
-    println!("{compared} files, each in a process of its own, {threads} at a time");
+    }
+    println!("{compared} files, each in a process of its own");
     Ok(())
 }
 
 fn main() -> ExitCode {
     let mut words: Vec<String> = env::args().skip(1).collect();
     let whole = words.first().is_some_and(|word| word == "--whole");
-    let amount = if whole { Amount::Whole } else { Amount::Part };
     words.drain(..usize::from(whole));
-    let chosen = random::seed().and_then(|seed| Ok((seed, Program::among(words)?)));
+    let kind = |word: &&String| KINDS.contains(&word.as_str());
+    let other = words.split_off(words.iter().take_while(kind).count());
+    let chosen = random::seed().and_then(|seed| Ok((seed, Program::among(other)?)));
     let (seed, program) = match chosen {
         Ok(chosen) => chosen,
         Err(complaint) => {
@@ -535,7 +534,8 @@ fn main() -> ExitCode {
         }
     };
     println!("seed {seed} (another by {SEED_VARIABLE})");
-    match all(&Arc::new(program), seed, amount) {
+    let amount = if whole { Amount::Whole } else { Amount::Part };
+    match all(&Rc::new(program), seed, amount, &words) {
         Ok(()) => ExitCode::SUCCESS,
         Err(failure) => {
             println!("{failure}");
