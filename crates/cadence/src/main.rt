@@ -81,7 +81,7 @@ fn refusal(text: &[u8]) -> u8
 fn tell_refusal(no: u8) {
     match no {
         3 => tell(
-            b"cadence: refused with 3: a count, a parity or a present number is wrong, or there are pictures and no shape, or bytes after the end; expected 0 or 5 numbers of a shape, parities and present numbers of 0 or 1, a shape where there are pictures, and no byte after the last of them\n",
+            b"cadence: refused with 3: wrong count, parity or present number, pictures and no shape, or bytes after the end; expected 0 or 5 shape numbers, parity and present 0 or 1, no byte more\n",
         ),
         4 => tell(
             b"cadence: refused with 4: the shape is outside its bounds; expected width 1 to 8192, height 1 to 4352, depth 8 to 16, and a stride of at least a row\n",

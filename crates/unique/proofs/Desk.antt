@@ -37,7 +37,8 @@ use Rattle.unique.proofs.Law.{same, _and_, once}
 pub desk-to-rgb-once : OneAnswer 3 desk-to-rgb-kinds.ps desk-to-rgb-kinds.r desk-to-rgb.Post
 desk-to-rgb-once =
     once 3 desk-to-rgb-kinds.ps desk-to-rgb-kinds.r desk-to-rgb.Post (λ κs a x y s t p q. same (p .0) (q .0))
-    (λ κs a x u v p q. refl and refl and refl and refl and same (p .1 .0) (q .1 .0) and same (p .1 .1 .0) (q .1 .1 .0) and same (p .1 .1 .1) (q .1 .1 .1) and refl)
+    (λ κs a x u v p q. refl and refl and refl and refl and same (p .1 .0) (q .1 .0) and same (p .1 .1 .0) (q .1 .1 .0)
+    and same (p .1 .1 .1) (q .1 .1 .1) and refl)
 
 pub desk-quantise-once : OneAnswer 0 desk-quantise-kinds.ps desk-quantise-kinds.r desk-quantise.Post
 desk-quantise-once κs a x y u v p q = (same p q, refl)

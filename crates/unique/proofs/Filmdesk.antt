@@ -58,4 +58,5 @@ desk-detector-push-measured-once =
 pub desk-detector-push-once : OneAnswer 4 desk-detector-push-kinds.ps desk-detector-push-kinds.r desk-detector-push.Post
 desk-detector-push-once =
     once 4 desk-detector-push-kinds.ps desk-detector-push-kinds.r desk-detector-push.Post (λ κs a x y s t p q. same (p .0) (q .0))
-    (λ κs a x u v p q. same (p .1 .0) (q .1 .0) and refl and refl and refl and same (p .1 .1 .0) (q .1 .1 .0) and same (p .1 .1 .1) (q .1 .1 .1) and refl)
+    (λ κs a x u v p q. same (p .1 .0) (q .1 .0) and refl and refl and refl and same (p .1 .1 .0) (q .1 .1 .0) and same (p .1 .1 .1) (q .1 .1 .1)
+    and refl)

@@ -9,4 +9,5 @@ use Rattle.unique.proofs.Law.{same, _and_, once}
 pub desk-picture-once : OneAnswer 10 desk-picture-kinds.ps desk-picture-kinds.r desk-picture.Post
 desk-picture-once =
     once 10 desk-picture-kinds.ps desk-picture-kinds.r desk-picture.Post (λ κs a x y s t p q. same (p .0) (q .0))
-    (λ κs a x u v p q. refl and refl and refl and refl and refl and refl and refl and refl and refl and refl and refl and refl and refl and refl and refl and same (p .1) (q .1) and refl)
+    (λ κs a x u v p q. refl and refl and refl and refl and refl and refl and refl and refl and refl and refl and refl and refl and refl and refl
+    and refl and same (p .1) (q .1) and refl)

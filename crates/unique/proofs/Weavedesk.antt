@@ -23,7 +23,8 @@ use Rattle.unique.proofs.Law.{same, _and_, once}
 pub desk-weave-once : OneAnswer 9 desk-weave-kinds.ps desk-weave-kinds.r desk-weave.Post
 desk-weave-once =
     once 9 desk-weave-kinds.ps desk-weave-kinds.r desk-weave.Post (λ κs a x y s t p q. same (p .0) (q .0))
-    (λ κs a x u v p q. refl and refl and refl and refl and refl and refl and refl and refl and same (p .1 .0) (q .1 .0) and same (p .1 .1 .0) (q .1 .1 .0) and same (p .1 .1 .1) (q .1 .1 .1) and refl)
+    (λ κs a x u v p q. refl and refl and refl and refl and refl and refl and refl and refl and same (p .1 .0) (q .1 .0)
+    and same (p .1 .1 .0) (q .1 .1 .0) and same (p .1 .1 .1) (q .1 .1 .1) and refl)
 
 pub desk-line-number-once : OneAnswer 0 desk-line-number-kinds.ps desk-line-number-kinds.r desk-line-number.Post
 desk-line-number-once κs a x y u v p q = (same p q, refl)
@@ -39,7 +40,8 @@ desk-woven-once κs a x y u v p q = (same p q, refl)
 pub desk-readback-once : OneAnswer 6 desk-readback-kinds.ps desk-readback-kinds.r desk-readback.Post
 desk-readback-once =
     once 6 desk-readback-kinds.ps desk-readback-kinds.r desk-readback.Post (λ κs a x y s t p q. same (p .0) (q .0))
-    (λ κs a x u v p q. refl and refl and refl and refl and same (p .1 .0) (q .1 .0) and same (p .1 .1 .0) (q .1 .1 .0) and same (p .1 .1 .1) (q .1 .1 .1) and refl)
+    (λ κs a x u v p q. refl and refl and refl and refl and same (p .1 .0) (q .1 .0) and same (p .1 .1 .0) (q .1 .1 .0)
+    and same (p .1 .1 .1) (q .1 .1 .1) and refl)
 
 pub desk-weaver-new-once : OneAnswer 1 desk-weaver-new-kinds.ps desk-weaver-new-kinds.r desk-weaver-new.Post
 desk-weaver-new-once =
@@ -54,4 +56,7 @@ desk-weaver-clear-once =
 pub desk-weaver-push-once : OneAnswer 11 desk-weaver-push-kinds.ps desk-weaver-push-kinds.r desk-weaver-push.Post
 desk-weaver-push-once =
     once 11 desk-weaver-push-kinds.ps desk-weaver-push-kinds.r desk-weaver-push.Post (λ κs a x y s t p q. same (p .0) (q .0))
-    (λ κs a x u v p q. same (p .1 .0) (q .1 .0) and refl and refl and refl and refl and refl and refl and refl and same (p .1 .1 .0) (q .1 .1 .0) and same (p .1 .1 .1 .0) (q .1 .1 .1 .0) and same (p .1 .1 .1 .1 .0) (q .1 .1 .1 .1 .0) and same (p .1 .1 .1 .1 .1 .0) (q .1 .1 .1 .1 .1 .0) and same (p .1 .1 .1 .1 .1 .1 .0) (q .1 .1 .1 .1 .1 .1 .0) and same (p .1 .1 .1 .1 .1 .1 .1 .0) (q .1 .1 .1 .1 .1 .1 .1 .0) and same (p .1 .1 .1 .1 .1 .1 .1 .1) (q .1 .1 .1 .1 .1 .1 .1 .1) and refl)
+    (λ κs a x u v p q. same (p .1 .0) (q .1 .0) and refl and refl and refl and refl and refl and refl and refl and same (p .1 .1 .0) (q .1 .1 .0)
+    and same (p .1 .1 .1 .0) (q .1 .1 .1 .0) and same (p .1 .1 .1 .1 .0) (q .1 .1 .1 .1 .0) and same (p .1 .1 .1 .1 .1 .0) (q .1 .1 .1 .1 .1 .0)
+    and same (p .1 .1 .1 .1 .1 .1 .0) (q .1 .1 .1 .1 .1 .1 .0) and same (p .1 .1 .1 .1 .1 .1 .1 .0) (q .1 .1 .1 .1 .1 .1 .1 .0)
+    and same (p .1 .1 .1 .1 .1 .1 .1 .1) (q .1 .1 .1 .1 .1 .1 .1 .1) and refl)
