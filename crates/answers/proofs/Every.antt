@@ -1,4 +1,4 @@
--- A test of every number below another, one after the other, and what the loops that make it end with. Assumes nothing.
+-- A test of every number below another, one after the other, and what the loops that make it end with.
 use Prim.Native.Nat.{ℕ, _+_, _*_, _≤_}
 use mathlib.Core.Path.{_≡_, ap, _∙_}
 use mathlib.Core.Bool.{Bool, _&&_}

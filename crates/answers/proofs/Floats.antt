@@ -1,4 +1,4 @@
--- Floats and the patterns of their bits. Assumes nothing.
+-- Floats and the patterns of their bits.
 use Prim.Native.Nat.{ℕ, _%_, _<_, _≤_}
 use mathlib.Core.Path.{_≡_, refl, sym, ap, subst, _∙_}
 use mathlib.Core.Bool.{Bool, true, false, not, true≢false}

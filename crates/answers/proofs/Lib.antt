@@ -1,4 +1,4 @@
--- Laws that the proofs of this crate share. Assumes nothing.
+-- Laws that the proofs of this crate share.
 pub mod Parts
 pub mod Floats
 pub mod Every

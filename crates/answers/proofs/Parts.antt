@@ -1,4 +1,4 @@
--- Slices of a record, from where they start and how long they are. Assumes nothing.
+-- Slices of a record, from where they start and how long they are.
 use Prim.Native.Nat.{ℕ, _+_, _-_, _≤_, _<_}
 use mathlib.Core.Path.{_≡_, refl, sym, ap, _∙_}
 use mathlib.Core.Bool.{Bool, true, false, cond, _&&_}

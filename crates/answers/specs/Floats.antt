@@ -1,4 +1,4 @@
--- Floats compared by their bits. Assumes nothing.
+-- Floats compared by their bits.
 use Prim.Native.Nat.{ℕ, _*_}
 use mathlib.Core.Bool.{Bool, not, _&&_}
 use mathlib.Core.List.{List}

@@ -1,3 +1,3 @@
--- The definitions that the contracts of `answers` cite. Assumes nothing.
+-- The definitions that the contracts of `answers` cite.
 pub mod Record
 pub mod Floats

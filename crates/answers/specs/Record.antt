@@ -1,5 +1,5 @@
 -- A record of a list that `replay_..` reads: four numbers at its head, its numbers, where each slice starts and how many bytes it has, then the
--- bytes of the slices. Numbers have eight bytes, low byte first; what is past the record's end counts as 0. Assumes nothing.
+-- bytes of the slices. Numbers have eight bytes, low byte first; what is past the record's end counts as 0.
 use Prim.Native.Nat.{ℕ, zero, suc, _+_, _-_, _*_, _/_, _%_, _^_}
 use mathlib.Core.Bool.{Bool, true, cond, _&&_}
 use mathlib.Core.List.{List, []}

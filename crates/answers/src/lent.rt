@@ -1,5 +1,5 @@
 // What lent places hold before a call, so that what a call writes, and what it leaves, both show: the
-// byte 165 in each of their bytes. Assumes nothing.
+// byte 165 in each of their bytes.
 use crate::float_of;
 ghost use mathlib.Core.Path.{_≡_};
 ghost use Prim.Native.Nat.{min};

@@ -2,7 +2,7 @@
 // of it. It is a head of four numbers (the record's bytes, the call, how many numbers there are, how
 // many slices), then the numbers, then for each slice where it starts in the record and how many bytes
 // it has, then the slices' bytes. Every number has eight bytes, low byte first. What a record lacks
-// reads as 0 or as nothing, and `whole` says so. Assumes nothing.
+// reads as 0 or as nothing, and `whole` says so.
 pub mod lent;
 
 ghost use mathlib.Core.Path.{_≡_};

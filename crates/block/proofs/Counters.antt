@@ -1,4 +1,4 @@
--- Laws of counters: what a row adds to them, and that rows after rows add up. Assumes nothing.
+-- Laws of counters: what a row adds to them, and that rows after rows add up.
 use Prim.Native.Nat.{ℕ, zero, suc, _+_, _*_, _≤_, _<_}
 use mathlib.Core.Path.{_≡_, refl, ap, ap₂, _∙_}
 use mathlib.Core.Bool.{Bool, true, false}

@@ -1,4 +1,4 @@
--- Laws that several proofs cite, and the claims. Assumes nothing.
+-- Laws that several proofs cite, and the claims.
 pub mod Rows
 pub mod Counters
 pub mod Passed

@@ -1,4 +1,4 @@
--- What a call that gets 0 has passed, and what a number that it gives says of its store. Assumes nothing.
+-- What a call that gets 0 has passed, and what a number that it gives says of its store.
 use Prim.Native.Nat.{ℕ, _≤_}
 use mathlib.Core.Path.{_≡_, sym, ap, subst, _∙_}
 use mathlib.Core.Bool.{and-eq-true-iff}

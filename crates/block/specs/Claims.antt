@@ -1,4 +1,4 @@
--- What holds of the definitions here. proofs/Claims.antt proves each under its name in small letters. Assumes nothing.
+-- What holds of the definitions here. proofs/Claims.antt proves each under its name in small letters.
 use Prim.Native.Nat.{ℕ, _≤_, _<_}
 use mathlib.Core.Path.{_≡_}
 use mathlib.Core.List.{List}

@@ -1,5 +1,4 @@
 -- How the private functions count: each block of a band has a counter, to which row after row is added. No public contract cites this file.
--- Assumes nothing.
 use Prim.Native.Nat.{ℕ, _+_, _*_, _≤_, _<_}
 use mathlib.Core.Path.{_≡_}
 use mathlib.Core.List.{List}

@@ -1,4 +1,4 @@
--- The definitions that the contracts of `block` cite. Assumes nothing.
+-- The definitions that the contracts of `block` cite.
 pub mod Block
 pub mod Answer
 pub mod Rows

@@ -3,7 +3,7 @@
 // Carried over from core/src/output/video/telecine.rs (`Snapshot`), and changed: the kept frame is one lent
 // store of width times height bytes, which a new picture is compared with and then written over.
 //
-// Which blocks of a field moved against the frame that a store keeps. Assumes nothing.
+// Which blocks of a field moved against the frame that a store keeps.
 ghost use mathlib.Core.Path.{_≡_};
 ghost use Prim.Native.Nat.{_+_, _*_, _<_, _≤_, min};
 ghost use lib.Dec.{ltb};
@@ -303,7 +303,7 @@ fn count_no(grid: Grid, bytes: usize, room: usize) -> u8
     ensures { λ r. ⌜ r ≡ countNo (gridShape grid) bytes room ⌝ }
 {
     let shape = plane::shape_of(grid);
-    plane::refusal::lowest_of(
+    refusal::lowest_of(
         true,
         plane::good_shape(shape),
         true,
@@ -317,7 +317,7 @@ fn keep_no(grid: Grid, bytes: usize, room: usize) -> u8
     ensures { λ r. ⌜ r ≡ keepNo (gridShape grid) bytes room ⌝ }
 {
     let shape = plane::shape_of(grid);
-    plane::refusal::lowest_of(
+    refusal::lowest_of(
         true,
         plane::good_shape(shape),
         true,

@@ -1,4 +1,4 @@
--- The claims of specs/Claims.antt, each under its name in small letters. Assumes nothing.
+-- The claims of specs/Claims.antt, each under its name in small letters.
 use Prim.Native.Nat.{ℕ, zero, suc, _+_, _-_, _/_, _%_, _≤_, _<_}
 use native.Mathlib.Omega.{arith}
 use mathlib.Core.Path.{_≡_, refl, sym, ap, _∙_}

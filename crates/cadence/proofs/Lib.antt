@@ -1,2 +1,2 @@
--- The claims. Assumes nothing.
+-- The claims.
 pub mod Claims

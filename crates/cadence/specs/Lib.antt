@@ -1,4 +1,4 @@
--- What the contracts of `cadence` cite, and what is claimed of what it tells. Assumes nothing.
+-- What the contracts of `cadence` cite, and what is claimed of what it tells.
 pub mod Told
 pub mod Turns
 pub mod Claims

@@ -1,4 +1,4 @@
--- The refusal with which a text of the listing ends, which the program tells in words. Assumes nothing.
+-- The refusal with which a text of the listing ends, which the program tells in words.
 use Prim.Native.Nat.{ℕ, _-_}
 use mathlib.Core.Bool.{cond, _&&_}
 use mathlib.Core.List.{List}

@@ -1,4 +1,4 @@
--- What a turn of the program's loop leaves, by what the step before asked for. Assumes nothing.
+-- What a turn of the program's loop leaves, by what the step before asked for.
 use Prim.Native.Nat.{ℕ, _-_, _≤_}
 use mathlib.Core.Path.{_≡_}
 use mathlib.Core.Bool.{Bool, true, false}

@@ -3,7 +3,7 @@
 // the buffer is read into, or a part of the page written. What the pages then are is the claim
 // `ListsEveryInput` of `listing`. What goes wrong is told on standard error: an input that cannot be read,
 // an output that cannot be written, which ends the program, and why a file is refused. A program of Rattle
-// sets no exit status, so that ./run goes by what was told. Assumes nothing.
+// sets no exit status, so that ./run goes by what was told.
 ghost use mathlib.Core.Path.{_≡_};
 ghost use Prim.Native.Nat.{_-_, _≤_, min};
 ghost use lib.ListN.{length, take};

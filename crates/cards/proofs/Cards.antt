@@ -1,4 +1,4 @@
--- The cards of specs/Cards.antt, by one computation. Assumes nothing.
+-- The cards of specs/Cards.antt, by one computation.
 use mathlib.Core.Path.{refl}
 use Rattle.laws.specs.Refusal.{lowest}
 use Rattle.laws.specs.Sums.{sumOver}

@@ -1,2 +1,2 @@
--- The proof of the cards. Assumes nothing.
+-- The proof of the cards.
 pub mod Cards

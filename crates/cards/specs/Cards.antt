@@ -1,6 +1,6 @@
 -- The bench cards of docs/RULES.md that are marked P, in its order: one table, `cards`, under one statement, `CardsHold`, which
 -- proofs/Cards.antt proves. A card holds a number that the definitions of the crates give and the number that docs/RULES.md says. A test
--- counts as 1 where it holds and 0 where it does not; symbols and cadences have their numbers. Lists of frames are newest first. Assumes nothing.
+-- counts as 1 where it holds and 0 where it does not; symbols and cadences have their numbers. Lists of frames are newest first.
 use Prim.Native.Nat.{ℕ, zero, suc, _+_, _*_, _%_}
 use mathlib.Core.Path.{_≡_}
 use mathlib.Core.Bool.{Bool, cond}

@@ -1,2 +1,2 @@
--- The bench cards that are proved. Assumes nothing.
+-- The bench cards that are proved.
 pub mod Cards

@@ -1,7 +1,7 @@
 // Program `cards`: runs the bench cards of docs/RULES.md. Standard input is the list of what that page
 // says of each, a line `NAME: ANSWER` (crates/cards/stdin). Of each card a line is printed, `NAME: ok`, or
 // what came and the list's line in its place; at the end, how many were run and how many differ. Those
-// that are proved (specs/Cards.antt) are run too. Assumes nothing.
+// that are proved (specs/Cards.antt) are run too.
 ghost use mathlib.Core.Path.{_≡_};
 ghost use mathlib.Core.List.{List, _∷_};
 ghost use Prim.Native.Nat.{_≤_};

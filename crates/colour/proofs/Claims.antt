@@ -1,4 +1,4 @@
--- The claims of specs/Claims.antt. Assumes nothing.
+-- The claims of specs/Claims.antt.
 use mathlib.Core.Path.{refl}
 use lib.Ieee.{add, mul, lt, toUnsigned, ofBits}
 use Rattle.laws.specs.Refusal.{rising}

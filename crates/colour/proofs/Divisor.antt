@@ -1,5 +1,5 @@
 -- The number that `to_rgb` divides by, kg = 1 - kr - kb, is at least an eighth: a weight is at most 7 / 16, and what is left of
--- 16 / 16, first 9 / 16 and then 2 / 16, are values of binary32, below which no larger number rounds. Assumes nothing.
+-- 16 / 16, first 9 / 16 and then 2 / 16, are values of binary32, below which no larger number rounds.
 use Prim.Native.Nat.{ℕ, _+_, _-_, _*_, _≤_, _<_}
 use native.Mathlib.Nat.{le-trans, le-of-eq, mul-assoc, mul-comm, mul-right-comm, mul-le-mul-right, mul-pos, add-mul}
 use native.Mathlib.Omega.{arith}

@@ -1,5 +1,4 @@
 -- The values of `converted` lie from 0 to 1: each step's size is read off its term by the laws of `float`, so that what is clamped is finite.
--- Assumes nothing.
 use lib.Dec.{lit≤}
 use lib.Ieee.{Float, ofBits}
 use Rattle.float.specs.Bounds.{Small}

@@ -1,4 +1,4 @@
--- What the tests of a range say of a number that passes them: it is finite, and no larger than the range's ends. Assumes nothing.
+-- What the tests of a range say of a number that passes them: it is finite, and no larger than the range's ends.
 use mathlib.Core.Path.{_≡_, refl, sym, subst}
 use mathlib.Core.Bool.{Bool, true, false, _&&_, _||_, true≢false}
 use Prim.Native.Nat.{ℕ, _*_, _≤_, _<_}

@@ -1,5 +1,5 @@
 -- What `to_rgb` gives back (docs/RULES.md, "What the desk gets back": 8 where one of the nine numbers or of the three samples is outside its
--- range or a NaN). Assumes nothing.
+-- range or a NaN).
 use Prim.Native.Nat.{ℕ}
 use mathlib.Core.Bool.{Bool, _&&_}
 use mathlib.Core.List.{List, [], _∷_}

@@ -1,4 +1,4 @@
--- What the contracts come to. proofs/Claims.antt proves each claim under its name in small letters. Assumes nothing.
+-- What the contracts come to. proofs/Claims.antt proves each claim under its name in small letters.
 use mathlib.Core.Path.{_≡_}
 use mathlib.Core.Bool.{true}
 use lib.Ieee.{Float, nan, binary32, ofBits}

@@ -1,5 +1,5 @@
 -- Y'CbCr to RGB, and a value as a byte (docs/RULES.md, "Colour and comb"; the source is colour.rs, whose order of operations `to_rgb` keeps).
--- Each step is one rounding of binary32, and its name is the source's. Assumes nothing.
+-- Each step is one rounding of binary32, and its name is the source's.
 use Prim.Native.Nat.{ℕ}
 use mathlib.Core.Bool.{Bool, _&&_}
 use lib.Ieee.{Float, binary32, add, sub, mul, div, neg, le, ofBits, toUnsigned}

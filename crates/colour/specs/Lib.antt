@@ -1,4 +1,4 @@
--- The definitions that the contracts of `colour` cite. Assumes nothing.
+-- The definitions that the contracts of `colour` cite.
 pub mod Colour
 pub mod Answer
 pub mod Claims

@@ -3,7 +3,7 @@
 // Carried over from core/src/output/video/colour.rs (`Conversion::to_rgb`, `quantise`, `Primaries::luma`),
 // and changed: the caller gives the nine numbers, and numbers out of range are refused.
 //
-// Y'CbCr to RGB in the original's order of operations, each step rounded once. Assumes nothing.
+// Y'CbCr to RGB in the original's order of operations, each step rounded once.
 ghost use mathlib.Core.Path.{_≡_};
 ghost use Rattle.laws.specs.Refusal.{whenDone};
 ghost use Rattle.colour.specs.Colour.{withinOf, goodConversion, goodSamples, convertedOf, quantiseOf, lumaWeights};
@@ -113,7 +113,7 @@ pub fn to_rgb(c: Conversion, y: f32, cb: f32, cr: f32) -> Coloured
     if good_conversion(c) & good_samples(y, cb, cr) {
         Coloured::Value(converted(c, y, cb, cr))
     } else {
-        Coloured::Refused(plane::refusal::COLOUR)
+        Coloured::Refused(refusal::COLOUR)
     }
 }
 

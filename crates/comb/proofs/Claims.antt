@@ -1,4 +1,4 @@
--- The claims of specs/Claims.antt. Assumes nothing.
+-- The claims of specs/Claims.antt.
 use Prim.Native.Nat.{ℕ, _-_}
 use mathlib.Core.Path.{_≡_, ap}
 use native.Mathlib.Omega.{arith}

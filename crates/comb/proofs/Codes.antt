@@ -1,4 +1,4 @@
--- What a call that gets 0 has passed, and whose codes its rows have. Assumes nothing.
+-- What a call that gets 0 has passed, and whose codes its rows have.
 use Prim.Native.Nat.{ℕ, _+_, _-_, _*_, _≤_}
 use mathlib.Core.Path.{_≡_, sym, ap, ap₂, _∙_}
 use mathlib.Core.Bool.{Bool, true, false, cond, _&&_, and-eq-true-iff}

@@ -1,4 +1,4 @@
--- Laws of rows: what three rows lent as parts of a plane have, and that their bends are those of the plane's codes. Assumes nothing.
+-- Laws of rows: what three rows lent as parts of a plane have, and that their bends are those of the plane's codes.
 use Prim.Native.Nat.{ℕ, _+_, _-_, _*_, _≤_, _<_}
 use mathlib.Core.Path.{_≡_, refl, ap, ap₂, _∙_}
 use mathlib.Core.List.{List}

@@ -1,4 +1,4 @@
--- What `comb` and `comb_rgba` give back (docs/RULES.md, "What the desk gets back"). Assumes nothing.
+-- What `comb` and `comb_rgba` give back (docs/RULES.md, "What the desk gets back").
 use Prim.Native.Nat.{ℕ, _*_}
 use mathlib.Core.Bool.{Bool, _&&_}
 use mathlib.Core.List.{List, [], _∷_}

@@ -1,4 +1,4 @@
--- The definitions that the contracts of `comb` cite. Assumes nothing.
+-- The definitions that the contracts of `comb` cite.
 pub mod Comb
 pub mod Answer
 pub mod Rows

@@ -1,4 +1,4 @@
--- How the private functions read a row: where in its bytes a column's code stands. No public contract cites this file. Assumes nothing.
+-- How the private functions read a row: where in its bytes a column's code stands. No public contract cites this file.
 use Prim.Native.Nat.{ℕ, _+_, _*_, _≤_}
 use mathlib.Core.Path.{_≡_}
 use mathlib.Core.Bool.{cond}

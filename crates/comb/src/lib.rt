@@ -3,7 +3,7 @@
 // Carried over from core/src/output/video/filter.rs (`comb`, `comb_rgba`), and changed: a plane is a
 // lent slice beside its numbers, rows are read as parts, and what is out of bounds is refused by number.
 //
-// Comb: how far each row stands out from the two beside it, summed over a picture. Assumes nothing.
+// Comb: how far each row stands out from the two beside it, summed over a picture.
 ghost use mathlib.Core.Path.{_≡_};
 ghost use Prim.Native.Nat.{_+_, _*_, _-_, _<_, _≤_};
 ghost use lib.ListN.{length, take, drop};
@@ -185,7 +185,7 @@ fn comb_no(width: u16, height: u16, depth: u8, stride: u32, bytes: usize) -> u8
         stride: stride,
         layout: Layout::Planar,
     };
-    plane::refusal::lowest_of(
+    refusal::lowest_of(
         true,
         plane::good_shape(shape),
         true,
@@ -198,7 +198,7 @@ fn comb_no(width: u16, height: u16, depth: u8, stride: u32, bytes: usize) -> u8
 fn rgba_no(width: u16, height: u16, bytes: usize) -> u8
     ensures { λ r. ⌜ r ≡ rgbaNo width height bytes ⌝ }
 {
-    plane::refusal::lowest_of(
+    refusal::lowest_of(
         true,
         (1 <= width) & (width <= 8192) & (1 <= height) & (height <= 4352),
         true,

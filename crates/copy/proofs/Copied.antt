@@ -1,4 +1,4 @@
--- A list that is written from the front with another, block by block. Assumes nothing.
+-- A list that is written from the front with another, block by block.
 use Prim.Native.Nat.{ℕ, _+_, _-_, _≤_, min}
 use mathlib.Core.Path.{_≡_, refl, sym, ap, _∙_}
 use mathlib.Core.List.{List, _++_, append-assoc}

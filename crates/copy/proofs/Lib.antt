@@ -1,2 +1,2 @@
--- The laws of a copy, for its proofs and those of its callers. Assumes nothing.
+-- The laws of a copy, for its proofs and those of its callers.
 pub mod Copied

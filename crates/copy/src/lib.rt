@@ -1,4 +1,4 @@
-// Bytes copied from one part of memory to another. Assumes nothing.
+// Bytes copied from one part of memory to another.
 ghost use mathlib.Core.Path.{_≡_};
 ghost use Prim.Native.Nat.{_≤_, min};
 ghost use lib.ListN.{length, take};

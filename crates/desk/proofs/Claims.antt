@@ -1,4 +1,4 @@
--- The claims of specs/Claims.antt: the numbers of every list rise. Assumes nothing.
+-- The claims of specs/Claims.antt: the numbers of every list rise.
 use Rattle.laws.specs.Refusal.{rising}
 use Rattle.laws.proofs.Claims.{lowest-says}
 use Rattle.desk.specs.Claims.{FirstFieldSays, CodeSays, AtSays, CombSays, CombRgbaSays, EdgeSays, SampleSays, PlaneSays, ToRgbSays, LumaSays}

@@ -1,5 +1,5 @@
 -- The code holds shapes whose numbers are cut to their places (`cut` of specs/Inner.antt). Nothing changes by it: a cut shape is within the bounds
--- exactly when the shape as given is, and then the two are one. Before 4, which is so judged alike, no call reads a size. Assumes nothing.
+-- exactly when the shape as given is, and then the two are one. Before 4, which is so judged alike, no call reads a size.
 use Prim.Native.Nat.{ℕ, _≤_, _<_, min}
 use mathlib.Core.Path.{_≡_, refl, sym, ap, subst}
 use mathlib.Core.Bool.{Bool, true, false, _&&_}

@@ -1,3 +1,2 @@
--- Assumes nothing.
 pub mod Cut
 pub mod Claims

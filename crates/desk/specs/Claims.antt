@@ -1,6 +1,6 @@
 -- What the exported functions' contracts come to: each number is 0 exactly when no test of the call's own list fails, and n exactly when a test of n
 -- fails and none of a lower number does. The numbers are those that the host gives, however large. `desk_quantise` refuses nothing.
--- proofs/Claims.antt proves each claim under its name in small letters. Assumes nothing.
+-- proofs/Claims.antt proves each claim under its name in small letters.
 use Prim.Native.Nat.{ℕ}
 use lib.IntN.{ℤ}
 use lib.Ieee.{Float}

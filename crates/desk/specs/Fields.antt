@@ -1,4 +1,4 @@
--- Fields by number (docs/RULES.md, "What the desk gets back": 3 for a code that names nothing). Assumes nothing.
+-- Fields by number (docs/RULES.md, "What the desk gets back": 3 for a code that names nothing).
 use Prim.Native.Nat.{ℕ}
 use mathlib.Core.Bool.{Bool, cond, _&&_}
 use mathlib.Core.List.{List, [], _∷_}

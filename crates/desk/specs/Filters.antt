@@ -1,4 +1,4 @@
--- The rows a field lacks, by number (docs/RULES.md, "Rows a field lacks"). Assumes nothing.
+-- The rows a field lacks, by number (docs/RULES.md, "Rows a field lacks").
 use Prim.Native.Nat.{ℕ}
 use mathlib.Core.Bool.{Bool, cond, _&&_}
 use mathlib.Core.List.{List, [], _∷_}

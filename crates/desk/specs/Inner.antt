@@ -1,5 +1,5 @@
 -- What a private step of the exports holds: a shape whose numbers have to fit their places. No export's contract cites this file; proofs/Cut.antt
--- shows that the cut changes nothing. Assumes nothing.
+-- shows that the cut changes nothing.
 use Prim.Native.Nat.{min}
 use Rattle.plane.specs.declared.Shape.{Shape}
 

@@ -1,4 +1,4 @@
--- The definitions that the exported functions' contracts cite. Assumes nothing.
+-- The definitions that the exported functions' contracts cite.
 pub mod Fields
 pub mod Planes
 pub mod Filters

@@ -1,5 +1,5 @@
 -- Planes by number (docs/RULES.md, "Planes", "What the desk gets back"): the shape that five numbers name, which need not fit a `Shape` of the
--- code, and what the reads of one sample give. Assumes nothing.
+-- code, and what the reads of one sample give.
 use Prim.Native.Nat.{ℕ}
 use mathlib.Core.Bool.{Bool, cond}
 use mathlib.Core.List.{List, [], _∷_}

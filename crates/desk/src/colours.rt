@@ -1,5 +1,4 @@
-// Colour by number. Assumes nothing.
-use plane::refusal;
+// Colour by number.
 ghost use mathlib.Core.Path.{_≡_};
 ghost use Rattle.laws.specs.Refusal.{written};
 ghost use Rattle.colour.specs.Colour.{convertedOf, quantiseOf, lumaWeights};

@@ -1,5 +1,5 @@
 // Comb by number. A number too large for its place counts as the largest there, which is out of bounds
-// too, so that no answer changes by it. Assumes nothing.
+// too, so that no answer changes by it.
 use crate::planes;
 ghost use mathlib.Core.Path.{_≡_};
 ghost use lib.ListN.{length};

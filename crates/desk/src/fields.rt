@@ -1,5 +1,4 @@
-// Fields by number. Assumes nothing.
-use plane::refusal;
+// Fields by number.
 ghost use mathlib.Core.Path.{_≡_};
 ghost use Rattle.laws.specs.Refusal.{written};
 ghost use Rattle.field.specs.Field.{firstRowOf};

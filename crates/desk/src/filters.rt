@@ -1,7 +1,6 @@
-// The rows a field lacks, by number. Assumes nothing.
+// The rows a field lacks, by number.
 use crate::planes;
 use crate::planes::PlaneNumbers;
-use plane::refusal;
 ghost use mathlib.Core.Path.{_≡_};
 ghost use lib.ListN.{length};
 ghost use Rattle.laws.specs.Refusal.{written};

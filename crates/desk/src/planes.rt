@@ -1,5 +1,4 @@
-// Planes by number, and the reads of one sample. Assumes nothing.
-use plane::refusal;
+// Planes by number, and the reads of one sample.
 ghost use mathlib.Core.Path.{_≡_};
 ghost use Prim.Native.Nat.{min};
 ghost use lib.IntN.{natAbs};

@@ -1,5 +1,5 @@
 -- The frames that entries stand for: up to 4,000,000,000 of them a fresh detector refuses none, so that its lock is that of what was seen of
--- the entries, and the cadences of their codes are those of the entries. Assumes nothing.
+-- the entries, and the cadences of their codes are those of the entries.
 use Prim.Native.Nat.{ℕ, zero, suc, _+_, _-_, _<_, _≤_}
 use native.Mathlib.Numerals.{add-one}
 use native.Mathlib.Omega.{arith}

@@ -1,4 +1,4 @@
--- The number that entries get, and what they have passed where it is 0. Assumes nothing.
+-- The number that entries get, and what they have passed where it is 0.
 use Prim.Native.Nat.{ℕ, _/_, _%_}
 use native.Mathlib.Omega.{arith}
 use mathlib.Core.Path.{_≡_, sym, _∙_}

@@ -1,4 +1,4 @@
--- What the contracts of `entry` come to. proofs/Claims.antt proves each claim under its name in small letters. Assumes nothing.
+-- What the contracts of `entry` come to. proofs/Claims.antt proves each claim under its name in small letters.
 use Prim.Native.Nat.{ℕ, _/_, _<_}
 use mathlib.Core.Path.{_≡_}
 use mathlib.Core.List.{List, [], _∷_}

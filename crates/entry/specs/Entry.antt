@@ -1,5 +1,5 @@
 -- Measured entries as a reel file lays them out, and their cadences from a fresh detector (docs/RULES.md, "Reel file and listing", "Fields and
--- readback"). Assumes nothing.
+-- readback").
 use Prim.Native.Nat.{ℕ, zero, suc, _+_, _*_, _/_, _%_}
 use mathlib.Core.Bool.{Bool, true, cond, _&&_}
 use mathlib.Core.List.{List, [], _∷_}

@@ -1,4 +1,4 @@
--- What inner functions promise. Only their contracts cite it. Assumes nothing.
+-- What inner functions promise. Only their contracts cite it.
 use Prim.Native.Nat.{ℕ, _*_, _≤_}
 use mathlib.Core.List.{List}
 use Rattle.pulldown.specs.Codes.{codeOf}

@@ -1,4 +1,4 @@
--- The definitions that the contracts of `entry` cite, and the claims. Assumes nothing.
+-- The definitions that the contracts of `entry` cite, and the claims.
 pub mod Entry
 pub mod Inner
 pub mod Claims

@@ -1,6 +1,5 @@
 // Measured entries as a reel file lays them out (docs/RULES.md, "Reel file and listing"), and their
 // cadences from a fresh detector. The desk and the reel's reader stand on the same entry.
-// Assumes nothing.
 ghost use mathlib.Core.Path.{_≡_};
 ghost use mathlib.Core.List.{[], _∷_};
 ghost use Prim.Native.Nat.{_+_, _*_, _<_, _≤_};
@@ -116,18 +115,18 @@ fn lowest_of(outside: bool, short_input: bool, short_output: bool, too_many_fram
     ensures { λ r. ⌜ r ≡ lowest ((3, outside) ∷ (6, «short_input») ∷ (7, «short_output») ∷ (9, «too_many_frames») ∷ []) ⌝ }
 {
     if !outside {
-        return plane::refusal::OUTSIDE;
+        return refusal::OUTSIDE;
     }
     if !short_input {
-        return plane::refusal::SHORT_INPUT;
+        return refusal::SHORT_INPUT;
     }
     if !short_output {
-        return plane::refusal::SHORT_OUTPUT;
+        return refusal::SHORT_OUTPUT;
     }
     if too_many_frames {
-        plane::refusal::DONE
+        refusal::DONE
     } else {
-        plane::refusal::TOO_MANY_FRAMES
+        refusal::TOO_MANY_FRAMES
     }
 }
 

@@ -1,4 +1,4 @@
--- Fields of a frame (docs/RULES.md, "Port order", 1: `Parity`, `first_field`; the source is field.rs), and the numbers that stand for fields and cadences. Assumes nothing.
+-- Fields of a frame (docs/RULES.md, "Port order", 1: `Parity`, `first_field`; the source is field.rs), and the numbers that stand for fields and cadences.
 use Prim.Native.Nat.{ℕ}
 use mathlib.Core.Bool.{Bool, true, false, cond}
 use lib.Dec.{eqb}

@@ -1,2 +1,2 @@
--- The definitions that the contracts of `field` cite. Assumes nothing.
+-- The definitions that the contracts of `field` cite.
 pub mod Field

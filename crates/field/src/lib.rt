@@ -4,7 +4,7 @@
 // `first_field` takes the two values that it read from `About`, and the schedule from a cadence to
 // outputs stays behind.
 //
-// Which field of a frame is which, and the words for what is shown of a frame. Assumes nothing.
+// Which field of a frame is which, and the words for what is shown of a frame.
 ghost use mathlib.Core.Path.{_≡_};
 ghost use Rattle.field.specs.Field.{firstRowOf, otherOf, parityNamed, cadenceNumber, firstFieldOf};
 

@@ -1,4 +1,4 @@
--- Which row a line is made from: the definition of a sample, by whether cur's own row is kept. Assumes nothing.
+-- Which row a line is made from: the definition of a sample, by whether cur's own row is kept.
 use mathlib.Core.Path.{_≡_, sym, _∙_, ap}
 use mathlib.Core.Bool.{Bool, true, false}
 use mathlib.Core.List.{List}

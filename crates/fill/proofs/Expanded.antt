@@ -1,4 +1,4 @@
--- A row of the source that is expanded column by column, then padded by six columns on each side. Assumes nothing.
+-- A row of the source that is expanded column by column, then padded by six columns on each side.
 use mathlib.Core.Path.{_≡_, refl, sym, _∙_, ap}
 use mathlib.Core.List.{List}
 use mathlib.Core.Logic.{⊎-elim}

@@ -1,5 +1,5 @@
 -- What a call of `band` that gets 0 has shown: its rows are the plane's, its planes are within the bounds, agree and are lent whole, and the
--- output has room. And how such a call ends. Assumes nothing.
+-- output has room. And how such a call ends.
 use mathlib.Core.Path.{_≡_, sym, subst, _∙_}
 use mathlib.Core.Bool.{true, _&&_}
 use Prim.Native.Nat.{ℕ, _+_, _*_, _≤_}

@@ -1,4 +1,4 @@
--- The laws that the proofs of the functions cite, and the claims. Assumes nothing.
+-- The laws that the proofs of the functions cite, and the claims.
 pub mod Expanded
 pub mod Places
 pub mod Chosen

@@ -1,4 +1,4 @@
--- Where the samples of a row stand, as `samples` walks them: from a place on, by one step a sample. Assumes nothing.
+-- Where the samples of a row stand, as `samples` walks them: from a place on, by one step a sample.
 use mathlib.Core.Path.{_≡_, sym, _∙_, ap}
 use mathlib.Core.Bool.{Bool, cond}
 use mathlib.Core.List.{List}

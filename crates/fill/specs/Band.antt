@@ -1,5 +1,5 @@
 -- A band of rows, of which a whole plane is one: its number, and what the lent list holds afterwards (docs/RULES.md, "Rows a field lacks" and
--- "What the desk gets back"). Pictures are made from bands. Assumes nothing.
+-- "What the desk gets back"). Pictures are made from bands.
 use Prim.Native.Nat.{ℕ, _+_, _*_}
 use mathlib.Core.Bool.{Bool, _&&_}
 use mathlib.Core.List.{List, [], _∷_}

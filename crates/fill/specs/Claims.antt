@@ -1,4 +1,4 @@
--- What the numbers of `plane` and `band` say. proofs/Claims.antt proves each claim under its name in small letters. Assumes nothing.
+-- What the numbers of `plane` and `band` say. proofs/Claims.antt proves each claim under its name in small letters.
 use Prim.Native.Nat.{ℕ}
 use Rattle.laws.specs.Refusal.{Says}
 use Rattle.plane.specs.declared.Shape.{Shape}

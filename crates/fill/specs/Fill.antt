@@ -1,5 +1,5 @@
 -- A whole plane of samples (docs/RULES.md, "Rows a field lacks" and "What the desk gets back"; the source is `plane` in filter.rs): its number,
--- and what the lent list holds afterwards. Assumes nothing.
+-- and what the lent list holds afterwards.
 use Prim.Native.Nat.{ℕ, _*_}
 use mathlib.Core.Bool.{Bool, _&&_}
 use mathlib.Core.List.{List, [], _∷_}

@@ -1,4 +1,4 @@
--- The definitions that the contracts of `fill` cite. Assumes nothing.
+-- The definitions that the contracts of `fill` cite.
 pub mod Fill
 pub mod Band
 pub mod Lines

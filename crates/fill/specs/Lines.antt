@@ -1,5 +1,5 @@
 -- What the inner functions of `fill` promise: planes that were tested, and a row of the source on its way to an expanded row
--- (crates/scanline). Assumes nothing.
+-- (crates/scanline).
 use Prim.Native.Nat.{ℕ, _+_, _/_, _^_, _≤_, _<_}
 use mathlib.Core.Path.{_≡_}
 use mathlib.Core.Bool.{Bool, not}

@@ -6,7 +6,7 @@
 //
 // A whole plane of samples, fast. Each source row that a line needs is first expanded to floats, with
 // six more columns on each side that hold what the plane's sampler gives there. The loops over a line
-// then read with neither a clamp nor a test, and are vectorised. Assumes nothing.
+// then read with neither a clamp nor a test, and are vectorised.
 ghost use mathlib.Core.Path.{_≡_};
 ghost use Prim.Native.Nat.{ℕ, _+_, _*_, _-_, _<_, _≤_, _^_, min};
 ghost use lib.ListN.{length};
@@ -540,7 +540,7 @@ pub fn band(
         & (plane::plane_bytes(cur_shape) <= cur.len())
         & (plane::plane_bytes(after_shape) <= after.len());
     let room = area(count, cur_shape.width) <= out.len();
-    let no = plane::refusal::lowest_of(inside, shapes, same, whole, room, true);
+    let no = refusal::lowest_of(inside, shapes, same, whole, room, true);
     if no == 0 {
         lines(
             out,

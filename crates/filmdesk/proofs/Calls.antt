@@ -1,4 +1,4 @@
--- How the tests of a call and those of the call that it hands on make up one number. Assumes nothing.
+-- How the tests of a call and those of the call that it hands on make up one number.
 use Prim.Native.Nat.{ℕ, _≤_}
 use mathlib.Core.Path.{_≡_, refl, _∙_}
 use mathlib.Core.Bool.{Bool, true, false, _&&_}

@@ -1,5 +1,4 @@
 -- The claims over any calls: the state always holds the detector that the frames given so far leave, of which crate `telecine` has the same claims.
--- Assumes nothing.
 use Prim.Native.Nat.{ℕ, _+_, _≤_, _<_}
 use mathlib.Core.Path.{_≡_, refl, sym, ap, _∙_}
 use mathlib.Core.Logic.{_↔_, ⊎-elim}

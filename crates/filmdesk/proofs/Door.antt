@@ -1,6 +1,6 @@
 -- The contracts of the exported calls are what the histories take them for: each, read as a plain type over the parameters of its signature in their
 -- order, comes to the number, the bytes and the lists that History gives. So a contract that means another call, or other parameters, is refused
--- here, though its code meet it. Assumes nothing.
+-- here, though its code meet it.
 use Prim.Native.Nat.{ℕ}
 use mathlib.Core.Path.{_≡_, refl, ap, _∙_}
 use mathlib.Core.List.{List}

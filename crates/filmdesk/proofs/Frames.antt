@@ -1,4 +1,4 @@
--- A frame that the host gives is a frame pushed to the detector that the state holds: its number, its byte, and what it leaves. Assumes nothing.
+-- A frame that the host gives is a frame pushed to the detector that the state holds: its number, its byte, and what it leaves.
 use Prim.Native.Nat.{ℕ}
 use mathlib.Core.Path.{_≡_, refl, _∙_}
 use mathlib.Core.Bool.{Bool, true, false, cond, _&&_}

@@ -1,4 +1,4 @@
--- Laws of digits, and of an answer without a value. Assumes nothing.
+-- Laws of digits, and of an answer without a value.
 use Prim.Native.Nat.{ℕ, zero, suc, _+_, _*_, _≤_, _<_, _^_}
 use mathlib.Core.Path.{_≡_, refl, sym, ap, _∙_}
 use mathlib.Core.Bool.{Bool, true, false, cond}

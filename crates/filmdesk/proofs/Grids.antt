@@ -1,4 +1,4 @@
--- The host's numbers in the places of the code: that some are cut changes nothing. Assumes nothing.
+-- The host's numbers in the places of the code: that some are cut changes nothing.
 use Prim.Native.Nat.{ℕ, _≤_, min}
 use mathlib.Core.Path.{_≡_, refl, sym, ap, subst, _∙_}
 use mathlib.Core.Bool.{Bool, true, false, true≢false}

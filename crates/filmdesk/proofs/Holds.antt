@@ -1,4 +1,4 @@
--- That the state holds what a history of the detector's own calls leaves, and how a call that writes it, or does not, keeps it so. Assumes nothing.
+-- That the state holds what a history of the detector's own calls leaves, and how a call that writes it, or does not, keeps it so.
 use Prim.Native.Nat.{ℕ, _+_, _≤_}
 use mathlib.Core.Path.{_≡_, refl}
 use mathlib.Core.Bool.{Bool, true, false, cond}

@@ -1,4 +1,4 @@
--- Laws of a detector in the state's bytes. Assumes nothing.
+-- Laws of a detector in the state's bytes.
 use Prim.Native.Nat.{ℕ, _+_, _*_, _%_, _≤_, _<_, _^_}
 use mathlib.Core.Path.{_≡_, refl, sym, ap, _∙_}
 use mathlib.Core.Bool.{Bool, true, false, cond, not}

@@ -1,4 +1,4 @@
--- That the numbers of a fresh detector fit their places in the state, and that a frame which is taken keeps them there. Assumes nothing.
+-- That the numbers of a fresh detector fit their places in the state, and that a frame which is taken keeps them there.
 use Prim.Native.Nat.{ℕ, _+_, _<_, _^_, min}
 use mathlib.Core.Path.{_≡_, refl}
 use mathlib.Core.Bool.{Bool, true, false, cond, _&&_}

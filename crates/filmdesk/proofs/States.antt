@@ -1,4 +1,4 @@
--- The claims of specs/Claims.antt about states: what was written is found again, and what a call leaves fits its places. Assumes nothing.
+-- The claims of specs/Claims.antt about states: what was written is found again, and what a call leaves fits its places.
 use Prim.Native.Nat.{ℕ, _+_, _*_, _%_, _<_, _^_}
 use mathlib.Core.Path.{_≡_, refl, sym, ap, subst, _∙_}
 use mathlib.Core.Bool.{Bool, true, false, not}

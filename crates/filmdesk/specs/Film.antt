@@ -1,5 +1,5 @@
 -- Counts and the detector by number (docs/RULES.md, "Blocks and symbols", "What the desk gets back"). A state shorter than 96 bytes is a lent
--- input that is too short, 6; where it is only written, an output, 7. Assumes nothing.
+-- input that is too short, 6; where it is only written, an output, 7.
 use Prim.Native.Nat.{ℕ, _*_}
 use mathlib.Core.Bool.{Bool, cond, _&&_}
 use mathlib.Core.List.{List, [], _∷_}

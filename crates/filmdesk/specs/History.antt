@@ -1,6 +1,6 @@
 -- Histories of the exported calls on a detector, from `desk_detector_new` on, with the state and the store lent back as they were left. First what
 -- the calls leave, by the definitions that their contracts cite; then, by the host's own numbers, the frames that it gave. Lists of calls are
--- newest first. Assumes nothing.
+-- newest first.
 use Prim.Native.Nat.{ℕ}
 use mathlib.Core.Path.{_≡_}
 use mathlib.Core.Bool.{Bool, cond, _&&_}

@@ -1,4 +1,4 @@
--- What inner functions promise. Only their contracts cite it. Assumes nothing.
+-- What inner functions promise. Only their contracts cite it.
 use Prim.Native.Nat.{ℕ, min}
 use mathlib.Core.List.{List}
 use Rattle.field.specs.declared.Chosen.{Chosen}

@@ -1,5 +1,5 @@
 -- A detector kept in lent bytes between calls: ten numbers of eight bytes, the ring's fifteen bytes, and the phase. Every list of bytes is some
--- detector, so that no call has to trust what it is lent. Assumes nothing.
+-- detector, so that no call has to trust what it is lent.
 use Prim.Native.Nat.{ℕ, _+_, _%_}
 use mathlib.Core.Bool.{Bool, true, false, cond, not}
 use mathlib.Core.List.{List, [], _∷_, _++_}

@@ -1,5 +1,5 @@
 -- What each call on a detector leaves in what the host lends: in the state, in the store, and in the byte that gets the answer. `number` is the number
--- that the call gets. The contracts cite these, and so do histories of calls. Assumes nothing.
+-- that the call gets. The contracts cite these, and so do histories of calls.
 use Prim.Native.Nat.{ℕ}
 use mathlib.Core.List.{List}
 use Rattle.laws.specs.Refusal.{written}

@@ -1,4 +1,4 @@
--- The definitions that the exported functions' contracts cite, and the claims. Assumes nothing.
+-- The definitions that the exported functions' contracts cite, and the claims.
 pub mod Kept
 pub mod Inner
 pub mod Film

@@ -1,14 +1,13 @@
 // What the capture desk's Rust host calls of the detector and of block counts, beside crate `desk` and
 // in its manner: numbers and byte slices, the answer a number of docs/RULES.md, "What the desk gets
 // back", a value to a lent place, which a refusal leaves as it was. Between calls the host keeps the
-// detector in 96 bytes that it lends. Assumes nothing.
+// detector in 96 bytes that it lends.
 use block::Counted;
 use block::Counts;
 use desk::planes;
 use field::Chosen;
 use field::Parity;
 use plane::Grid;
-use plane::refusal;
 use pulldown::Answer;
 use pulldown::Course;
 use pulldown::Lock;

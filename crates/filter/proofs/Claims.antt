@@ -1,4 +1,4 @@
--- The claims of `specs/Claims.antt`, most of them laws under another name. Assumes nothing.
+-- The claims of `specs/Claims.antt`, most of them laws under another name.
 use mathlib.Core.Path.{_≡_, refl, sym, subst, ap₂}
 use mathlib.Core.Bool.{Bool, true, _&&_}
 use Prim.Native.Nat.{ℕ, _≤_, zero-le}

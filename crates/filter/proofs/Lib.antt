@@ -1,4 +1,4 @@
--- The laws that later crates cite, what the functions' proofs share, and the claims. Assumes nothing.
+-- The laws that later crates cite, what the functions' proofs share, and the claims.
 pub mod Offsets
 pub mod Slants
 pub mod Motion

@@ -1,4 +1,4 @@
--- Motion, from the eight values that it reads. Assumes nothing.
+-- Motion, from the eight values that it reads.
 use mathlib.Core.Path.{_≡_}
 use lib.IntN.{ℤ, _+ℤ_, _-ℤ_}
 use lib.Ieee.{Float, binary32, mul}

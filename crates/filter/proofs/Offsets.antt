@@ -1,5 +1,5 @@
 -- Differences of natural numbers, and by them what an offset to a held coordinate is to the signed one. A held number is a difference:
--- a coordinate c is c - 65,544, a slant j is j - 2. Assumes nothing.
+-- a coordinate c is c - 65,544, a slant j is j - 2.
 use mathlib.Core.Path.{_≡_, refl, sym, ap, _∙_}
 use mathlib.Core.Bool.{Bool, true, false, cond}
 use Prim.Native.Nat.{ℕ, zero, suc, _+_, _-_, _*_, _≤_, _<_}

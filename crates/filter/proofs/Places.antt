@@ -1,4 +1,4 @@
--- A coordinate within reach, as the code holds it: it has room, and is the coordinate. Assumes nothing.
+-- A coordinate within reach, as the code holds it: it has room, and is the coordinate.
 use mathlib.Core.Path.{_≡_, sym, ap, _∙_, subst}
 use mathlib.Core.Bool.{true}
 use Prim.Native.Nat.{ℕ}

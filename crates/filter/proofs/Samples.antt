@@ -1,4 +1,4 @@
--- A sample by the row that it stands in. Assumes nothing.
+-- A sample by the row that it stands in.
 use mathlib.Core.Path.{_≡_, sym}
 use mathlib.Core.Bool.{true, false, true≢false}
 use borrow.Author.Tests.{eq-eqb, ne-eqb}

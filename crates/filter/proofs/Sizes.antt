@@ -1,5 +1,5 @@
 -- How large the values are on the way to a made row, from samplers whose values are at most 2 ^ 16 in size: every value is finite, so the
--- last clamp brings it into 0..1, and the ends of the clamp before it are in order. Assumes nothing.
+-- last clamp brings it into 0..1, and the ends of the clamp before it are in order.
 use Prim.Native.Nat.{ℕ, _+_, _*_, _^_, _≤_, _<_, min, max}
 use mathlib.Core.Path.{_≡_}
 use mathlib.Core.Bool.{Bool, true, false, cond, true≢false}

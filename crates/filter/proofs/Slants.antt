@@ -1,4 +1,4 @@
--- The slant that `bestOf` finds, and how the code comes to it by four tries. Assumes nothing.
+-- The slant that `bestOf` finds, and how the code comes to it by four tries.
 use mathlib.Core.Path.{_≡_, refl, sym, subst, _∙_, ap}
 use mathlib.Core.Bool.{Bool, true, false, cond}
 use mathlib.Core.Logic.{⊎-elim}

@@ -1,5 +1,4 @@
 -- What `edge` and `sample` give back (docs/RULES.md, "What the desk gets back"): the number, and the value of a call that gets 0.
--- Assumes nothing.
 use Prim.Native.Nat.{ℕ}
 use mathlib.Core.Bool.{Bool, _&&_}
 use mathlib.Core.List.{List, [], _∷_}

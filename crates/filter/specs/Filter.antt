@@ -1,6 +1,6 @@
 -- The rows a field lacks (docs/RULES.md, "Rows a field lacks"; the source is filter.rs). Each float step is one rounding of binary32, in the
 -- source's order. A plane is known here only as a sampler, a value at two coordinates; which planes those are, and what lies past an edge,
--- is the sampler's own affair. Assumes nothing.
+-- is the sampler's own affair.
 use mathlib.Core.Bool.{cond}
 use lib.Dec.{eqb}
 use lib.IntN.{ℤ, pos, negsuc, natAbs, _+ℤ_, _-ℤ_, _*ℤ_}

@@ -1,5 +1,5 @@
 -- How the code holds the numbers of `specs/Filter.antt` that may be negative: as natural numbers, a coordinate from -65,544 on
--- (`unbiased`, of `plane`), a slant and the k of a score from -2 on. Assumes nothing.
+-- (`unbiased`, of `plane`), a slant and the k of a score from -2 on.
 use Prim.Native.Nat.{ℕ, _≤_}
 use lib.IntN.{ℤ, subℕ}
 use Rattle.filter.specs.declared.Best.{Best}

@@ -1,4 +1,4 @@
--- The definitions that the contracts of `filter` cite, and the claims. Assumes nothing.
+-- The definitions that the contracts of `filter` cite, and the claims.
 pub mod Filter
 pub mod Rows
 pub mod Held

@@ -1,4 +1,4 @@
--- Which rows are shown (docs/RULES.md, "Rows a field lacks" and "Colour and comb": no field means first 0, no mate means 2). Assumes nothing.
+-- Which rows are shown (docs/RULES.md, "Rows a field lacks" and "Colour and comb": no field means first 0, no mate means 2).
 use Prim.Native.Nat.{ℕ}
 use mathlib.Core.Bool.{Bool, true, false, _&&_}
 use lib.Dec.{leb}

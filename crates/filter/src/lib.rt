@@ -3,7 +3,7 @@
 // Carried over from core/src/output/video/filter.rs (`sample`, `edge`, `Rows`), and changed: a plane is a
 // lent slice beside its shape, closures are functions, and what is out of bounds is refused by number.
 //
-// The rows a field lacks, sample by sample. Assumes nothing.
+// The rows a field lacks, sample by sample.
 ghost use mathlib.Core.Path.{_≡_};
 ghost use Prim.Native.Nat.{_≤_};
 ghost use lib.IntN.{natAbs};
@@ -444,7 +444,7 @@ fn sample_no(
     let enough = (plane::plane_bytes(before_shape) <= before_bytes)
         & (plane::plane_bytes(cur_shape) <= cur_bytes)
         & (plane::plane_bytes(after_shape) <= after_bytes);
-    plane::refusal::lowest_of(inside, good, agree, enough, true, true)
+    refusal::lowest_of(inside, good, agree, enough, true, true)
 }
 
 // How the edge runs at a place of a missing row: the upper row is looked at this far to the right, and
@@ -452,7 +452,7 @@ fn sample_no(
 pub fn edge(cur: &[u8], shape: plane::Shape, x: i32, y: i32) -> Edged
     ensures { λ r. ⌜ (edgedNo r ≡ edgeNo shape (length (now (cur .entry))) x y) × (edgedValues r ≡ whenDone (edgeNo shape (length (now (cur .entry))) x y) (edgeOf (valueOf (now (cur .entry)) shape) x y)) ⌝ }
 {
-    let no = plane::refusal::lowest_of(
+    let no = refusal::lowest_of(
         plane::in_reach(x) & plane::in_reach(y),
         plane::good_shape(shape),
         true,

@@ -1,5 +1,5 @@
 -- A float cut to a byte. It is held between 0 and 255, which does not change its cut. Then 2 ^ 23 is added, where floats have no fractions, and taken away:
--- that leaves one of the two whole numbers around the value, and a test says which. Assumes nothing.
+-- that leaves one of the two whole numbers around the value, and a test says which.
 use mathlib.Core.Path.{_≡_, refl, sym, ap, _∙_}
 use mathlib.Core.Bool.{Bool, true, false, cond, true≢false}
 use Prim.Native.Nat.{ℕ, zero, suc, _+_, _-_, _*_, _/_, _^_, _≤_, _<_, min}

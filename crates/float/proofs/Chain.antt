@@ -1,4 +1,4 @@
--- Comparisons of floats one after another. Where a NaN stands none is true, so most suppose nothing of the floats. Assumes nothing.
+-- Comparisons of floats one after another. Where a NaN stands none is true, so most suppose nothing of the floats.
 use mathlib.Core.Path.{_≡_, refl, sym, subst, _∙_}
 use mathlib.Core.Bool.{Bool, true, false, _&&_, _||_}
 use mathlib.Core.Logic.{⊎-elim}

@@ -1,4 +1,4 @@
--- The claims of `specs/Claims.antt`, most of them laws under another name. Assumes nothing.
+-- The claims of `specs/Claims.antt`, most of them laws under another name.
 use mathlib.Core.Path.{_≡_, refl}
 use mathlib.Core.Bool.{false, cond}
 use lib.Ieee.{Float, nan, inf, fin, lt, isNan}

@@ -1,4 +1,4 @@
--- The ends of a clamp around a value, less and more by an amount that is not negative, are in order. Assumes nothing.
+-- The ends of a clamp around a value, less and more by an amount that is not negative, are in order.
 use mathlib.Core.Path.{_≡_, refl}
 use mathlib.Core.Bool.{Bool, true, false, cond}
 use Prim.Native.Nat.{ℕ, _+_, _-_, _*_, _<_, zero-le}

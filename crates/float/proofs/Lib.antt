@@ -1,4 +1,4 @@
--- The laws that later crates cite, and what the functions' proofs share. Assumes nothing.
+-- The laws that later crates cite, and what the functions' proofs share.
 pub mod Order
 pub mod Chain
 pub mod Rounded

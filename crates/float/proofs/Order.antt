@@ -1,4 +1,4 @@
--- The order of floats by their signs and their sizes, and Rust's test for a NaN. Assumes nothing.
+-- The order of floats by their signs and their sizes, and Rust's test for a NaN.
 use mathlib.Core.Path.{_≡_, refl, sym, subst}
 use mathlib.Core.Bool.{Bool, true, false, not, _&&_, _||_, Bool·beq}
 use Prim.Native.Nat.{ℕ, _+_, _*_, _≤_, _<_}

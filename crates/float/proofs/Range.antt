@@ -1,5 +1,4 @@
 -- Values that are not negative, and values from 0 to 1: `NotNegative x` and `Unit x`, neither of which a NaN is. -0 is not negative.
--- Assumes nothing.
 use mathlib.Core.Path.{_≡_, refl, sym, _∙_, subst}
 use mathlib.Core.Logic.{inl, inr}
 use mathlib.Core.Bool.{Bool, true, false, _||_, cond, true≢false}

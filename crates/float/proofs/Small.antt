@@ -1,6 +1,6 @@
 -- The size of floats: one law for each operation, so that a bound on a result is read off its term, as in interval arithmetic.
 -- `Small k x` says that x is finite and at most 2 ^ k in size, and `Away k x` that it is finite and at least 2 ^ -k in size.
--- A condition on the exponents alone is a computed test: a caller writes `tt`. Assumes nothing.
+-- A condition on the exponents alone is a computed test: a caller writes `tt`.
 use mathlib.Core.Path.{_≡_, sym, ap, _∙_, subst}
 use mathlib.Core.Logic.{inl, inr}
 use mathlib.Core.Bool.{Bool, true, false, _&&_, _||_, Bool·beq, cond}

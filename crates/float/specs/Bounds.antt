@@ -1,5 +1,4 @@
 -- Bounds on floats, in terms of whole numbers. `up e` and `down e` are 2 ^ e as a fraction, so the size of `fin s m e` is m * up e / down e.
--- Assumes nothing.
 use Prim.Native.Nat.{ℕ, _*_, _^_, _≤_}
 use mathlib.Core.Bool.{true, false}
 use lib.Dec.{T}

@@ -1,4 +1,4 @@
--- What the definitions of `specs/Float.antt` come to. `proofs/Claims.antt` proves each. Assumes nothing.
+-- What the definitions of `specs/Float.antt` come to. `proofs/Claims.antt` proves each.
 use mathlib.Core.Path.{_≡_}
 use mathlib.Core.Bool.{false}
 use lib.Dec.{T}

@@ -1,6 +1,5 @@
 -- Rust's methods on `f32` that are functions here (docs/RULES.md, "Forms that must change"), at every float, a NaN and both zeros among
 -- them. The cut to a byte, `as u8`, is the library's own `toUnsigned 8`.
--- Assumes nothing.
 use mathlib.Core.Bool.{false, cond, _||_}
 use lib.Ieee.{Float, nan, inf, fin, binary32, lt, isNan, ofBits}
 

@@ -1,6 +1,6 @@
 // Rust's methods on `f32` that the original uses, as functions: abs, min, max, clamp and the cut to a
 // byte. Each is equal to its definition in specs/Float.antt at every float. The laws by which later
-// crates know that a value is finite and how large it is stand in proofs/. Assumes nothing.
+// crates know that a value is finite and how large it is stand in proofs/.
 ghost use mathlib.Core.Path.{_≡_};
 ghost use lib.IntN.{pos};
 ghost use lib.Ieee.{binary32, ofInt, toUnsigned};

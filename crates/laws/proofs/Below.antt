@@ -1,4 +1,4 @@
--- A number below 0 as the code counts it, 0 less n and then 1 less, of every width. Assumes nothing.
+-- A number below 0 as the code counts it, 0 less n and then 1 less, of every width.
 use Prim.Native.Nat.{ℕ, zero, suc, _+_, _-_, _<_, _^_}
 use mathlib.Core.Path.{_≡_, refl, sym, ap, subst, _∙_}
 use native.Mathlib.Omega.{arith}

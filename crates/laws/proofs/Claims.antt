@@ -1,4 +1,4 @@
--- The claims of specs/Claims.antt. Assumes nothing.
+-- The claims of specs/Claims.antt.
 use Rattle.laws.specs.Claims.{LowestSays}
 use Rattle.laws.proofs.Refusal.{lowest-of-rising}
 

@@ -1,4 +1,4 @@
--- The laws that later crates cite, and the claims. Assumes nothing.
+-- The laws that later crates cite, and the claims.
 pub mod Refusal
 pub mod Sums
 pub mod Lists

@@ -1,6 +1,6 @@
 -- Laws of lists that are given place by place (`listed`) and row by row (`laid`). A loop that writes f 0, f 1, .. keeps `Filled`, and one that
 -- writes row 0, row 1, .. keeps `Stacked`: `fill-starts` and `stack-starts` enter them, `fills` and `stacks` are a turn, `fill-ends` and
--- `stack-ends` leave them. Assumes nothing.
+-- `stack-ends` leave them.
 use Prim.Native.Nat.{ℕ, zero, suc, _+_, _-_, _*_, _≤_, _<_}
 use mathlib.Core.Path.{_≡_, refl, sym, ap, ap₂, _∙_}
 use mathlib.Core.List.{List, [], _∷_, _++_, append-nil, append-assoc}

@@ -1,5 +1,5 @@
 -- Laws of the lowest refusal. The list is walked once (`judge`): either no number applies and the answer is 0, or the answer applies
--- and no lower number does. `Says` is that in both directions. Assumes nothing.
+-- and no lower number does. `Says` is that in both directions.
 use Prim.Native.Nat.{ℕ, _≤_, _<_}
 use mathlib.Core.Path.{_≡_, refl, sym, ap, subst, _∙_}
 use mathlib.Core.Logic.{_⊎_, inl, inr}

@@ -1,5 +1,4 @@
 -- Laws of rows laid end to end, by which a loop that writes sample after sample, or row after row, is known to have written them all.
--- Assumes nothing.
 use Prim.Native.Nat.{ℕ, zero, suc, _+_, _-_, _*_, _≤_, _<_}
 use mathlib.Core.Path.{_≡_, refl, sym, _∙_, ap}
 use mathlib.Core.List.{List, [], _∷_, _++_, append-assoc, append-nil}

@@ -1,4 +1,4 @@
--- Laws of sums. A loop that adds f 0, f 1, .. keeps `Summed`: `starts` enters it, `adds` is a turn, `ends` leaves it. Assumes nothing.
+-- Laws of sums. A loop that adds f 0, f 1, .. keeps `Summed`: `starts` enters it, `adds` is a turn, `ends` leaves it.
 use Prim.Native.Nat.{ℕ, zero, suc, _+_, _*_, _≤_, _<_}
 use mathlib.Core.Path.{_≡_, refl, sym, ap, ap₂, _∙_}
 use native.Mathlib.Nat.{mul-suc, suc-mul, le-antisymm}

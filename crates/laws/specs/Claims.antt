@@ -1,4 +1,4 @@
--- What holds of the definitions here. proofs/Claims.antt proves each under the same name in small letters. Assumes nothing.
+-- What holds of the definitions here. proofs/Claims.antt proves each under the same name in small letters.
 use Prim.Native.Nat.{ℕ}
 use mathlib.Core.Bool.{Bool}
 use mathlib.Core.List.{List}

@@ -1,4 +1,4 @@
--- What the contract of a function comes to, as a plain type over the parameters of its signature (as `Post` of its module reads it). Assumes nothing.
+-- What the contract of a function comes to, as a plain type over the parameters of its signature (as `Post` of its module reads it).
 use Prim.Native.Nat.{ℕ}
 use mathlib.Core.List.{List}
 use contract.Lifetimes.{Lfts}

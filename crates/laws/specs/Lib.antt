@@ -1,4 +1,4 @@
--- The definitions that several crates cite. Assumes nothing.
+-- The definitions that several crates cite.
 pub mod Refusal
 pub mod Sums
 pub mod Rows

@@ -1,6 +1,6 @@
 -- The number that a call gives back (docs/RULES.md, "What the desk gets back"): 0 for done, and of several that apply the lowest.
 -- A call lists its tests, each under the number that it guards, in rising order. A test is true where its number does not apply.
--- What `lowest` says of such a list is the record `Says`, and every list in rising order has it (Claims). Assumes nothing.
+-- What `lowest` says of such a list is the record `Says`, and every list in rising order has it (Claims).
 use Prim.Native.Nat.{ℕ, _≤_, _<_}
 use mathlib.Core.Path.{_≡_}
 use mathlib.Core.Logic.{_⊎_, _↔_}

@@ -1,4 +1,4 @@
--- Rows laid end to end, as planes and pictures lie in memory, and what a lent list holds once its front is written. Assumes nothing.
+-- Rows laid end to end, as planes and pictures lie in memory, and what a lent list holds once its front is written.
 use Prim.Native.Nat.{ℕ, zero, suc}
 use mathlib.Core.List.{List, [], _∷_, _++_}
 use lib.ListN.{length, drop}

@@ -1,4 +1,4 @@
--- Sums over whole numbers, by which counts and comb are defined. Assumes nothing.
+-- Sums over whole numbers, by which counts and comb are defined.
 use Prim.Native.Nat.{ℕ, zero, suc, _+_, _-_}
 
 -- f 0 + f 1 + .. + f (n - 1)

@@ -1,4 +1,4 @@
--- The proofs of what specs/Claims.antt claims. Assumes nothing.
+-- The proofs of what specs/Claims.antt claims.
 use Prim.Native.Nat.{ℕ, zero, suc}
 use mathlib.Core.Path.{_≡_, refl, ap, subst, _∙_}
 use mathlib.Core.List.{List, _++_}

@@ -1,4 +1,4 @@
--- The digits that `io::decimal` makes are those of the definition, and a number of 64 bits has at most 20. Assumes nothing.
+-- The digits that `io::decimal` makes are those of the definition, and a number of 64 bits has at most 20.
 use Prim.Native.Nat.{ℕ, zero, suc, _+_, _-_, _/_, _%_, _^_, _≤_, _<_}
 use native.Mathlib.Nat.{mod-eq-of-lt, mod-lt, div-lt-iff-lt-mul, le-div-iff-mul-le, div-lt-self, pow-suc, le-trans, le-refl, add-suc}
 use native.Mathlib.Omega.{arith}

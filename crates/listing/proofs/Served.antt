@@ -1,4 +1,4 @@
--- A buffer of 16,384 bytes holds every unit that the machine of `reel` wants, and a machine that wants none has ended. Assumes nothing.
+-- A buffer of 16,384 bytes holds every unit that the machine of `reel` wants, and a machine that wants none has ended.
 use Prim.Native.Nat.{ℕ, zero, suc, _+_, _-_, _≤_, _<_}
 use native.Mathlib.Nat.{le-trans}
 use native.Mathlib.Omega.{arith}

@@ -1,4 +1,4 @@
--- What the calls of a step give, joined to the step of `pages`. Assumes nothing.
+-- What the calls of a step give, joined to the step of `pages`.
 use Prim.Native.Nat.{ℕ, _+_}
 use mathlib.Core.Path.{_≡_, refl, sym, ap, _∙_}
 use mathlib.Core.List.{List}

@@ -1,4 +1,4 @@
--- Laws of texts that are put one after another into a list. Assumes nothing.
+-- Laws of texts that are put one after another into a list.
 use Prim.Native.Nat.{ℕ, _+_, _≤_}
 use native.Mathlib.Nat.{add-assoc, add-zero}
 use mathlib.Core.Path.{_≡_, _∙_}

@@ -1,4 +1,4 @@
--- The example of a reel file and of its listing (docs/RULES.md, "Reel file and listing"). Assumes nothing.
+-- The example of a reel file and of its listing (docs/RULES.md, "Reel file and listing").
 use Prim.Native.Nat.{ℕ}
 use mathlib.Core.List.{List, [], _∷_, _++_}
 

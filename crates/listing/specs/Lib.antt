@@ -1,4 +1,4 @@
--- The definitions that the contracts of `listing` cite, the program's steps, the example of docs/RULES.md, and the claims. Assumes nothing.
+-- The definitions that the contracts of `listing` cite, the program's steps, the example of docs/RULES.md, and the claims.
 pub mod Listing
 pub mod Steps
 pub mod Example

@@ -1,4 +1,4 @@
--- The text of what a reel file says, as bytes (docs/RULES.md, "Reel file and listing"). Assumes nothing.
+-- The text of what a reel file says, as bytes (docs/RULES.md, "Reel file and listing").
 use Prim.Native.Nat.{ℕ, zero, suc, _+_, _/_, _%_}
 use mathlib.Core.Bool.{Bool, true, false, cond}
 use mathlib.Core.List.{List, [], _∷_, _++_}

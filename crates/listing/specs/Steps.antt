@@ -1,4 +1,4 @@
--- The program `cadence` a step at a time: the machine of `reel` with its store and its text, as `pages` runs it. Assumes nothing.
+-- The program `cadence` a step at a time: the machine of `reel` with its store and its text, as `pages` runs it.
 use Prim.Native.Nat.{ℕ}
 use mathlib.Core.Bool.{false}
 use mathlib.Core.List.{List}

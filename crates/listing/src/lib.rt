@@ -1,5 +1,5 @@
 // What a reel file says, as text (docs/RULES.md, "Reel file and listing"), and the program `cadence` a
-// step at a time. Assumes nothing.
+// step at a time.
 ghost use mathlib.Core.Path.{_≡_};
 ghost use mathlib.Core.List.{_++_};
 ghost use Prim.Native.Nat.{_+_, _≤_, max};

@@ -1,4 +1,4 @@
--- A number by its digits to a base. Assumes nothing.
+-- A number by its digits to a base.
 use Prim.Native.Nat.{ℕ, zero, suc, _+_, _*_, _/_, _%_, _<_, _^_}
 use mathlib.Core.Path.{_≡_, sym, ap, _∙_}
 use native.Mathlib.Nat.{pow-zero, pow-suc, one-le-pow, div-div-eq-div-mul, div-one, mod-one, mul-comm, add-comm}

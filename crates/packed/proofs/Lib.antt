@@ -1,4 +1,4 @@
--- Laws that the proofs of this crate share, and the claims. Assumes nothing.
+-- Laws that the proofs of this crate share, and the claims.
 pub mod General
 pub mod Parts
 pub mod Claims

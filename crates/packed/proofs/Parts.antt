@@ -1,4 +1,4 @@
--- A packed number by its halves. Assumes nothing.
+-- A packed number by its halves.
 use Prim.Native.Nat.{ℕ, _+_, _*_}
 use mathlib.Core.Path.{_≡_}
 use mathlib.Core.List.{List}

@@ -1,4 +1,4 @@
--- Parts of a number, low byte first. Only the contracts of inner functions cite them. Assumes nothing.
+-- Parts of a number, low byte first. Only the contracts of inner functions cite them.
 use Prim.Native.Nat.{ℕ, _+_, _*_}
 use mathlib.Core.List.{List}
 use lib.ListN.{getD}

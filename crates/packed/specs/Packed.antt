@@ -1,4 +1,4 @@
--- Whole numbers in lent bytes, eight bytes each, low byte first: how the desk keeps a state between calls. Assumes nothing.
+-- Whole numbers in lent bytes, eight bytes each, low byte first: how the desk keeps a state between calls.
 use Prim.Native.Nat.{ℕ, _+_, _*_, _/_, _%_, _^_}
 use mathlib.Core.Bool.{Bool}
 use mathlib.Core.List.{List, [], _∷_}

@@ -1,5 +1,5 @@
 // Whole numbers in lent bytes, eight bytes each, low byte first: how the desk keeps a state between
-// calls. Assumes nothing.
+// calls.
 ghost use mathlib.Core.Path.{_≡_};
 ghost use Prim.Native.Nat.{_<_, _^_};
 ghost use lib.ListN.{length, getD};

@@ -1,4 +1,4 @@
--- The proofs of what specs/Claims.antt claims. Assumes nothing.
+-- The proofs of what specs/Claims.antt claims.
 use Prim.Native.Nat.{ℕ, zero, suc, _+_, _-_, _≤_, _<_}
 use native.Mathlib.Omega.{arith}
 use mathlib.Core.Path.{_≡_, refl, sym, ap, subst, _∙_}

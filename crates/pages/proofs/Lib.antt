@@ -1,4 +1,4 @@
--- Laws that the proofs of this crate share, and the claims. Assumes nothing.
+-- Laws that the proofs of this crate share, and the claims.
 pub mod Parts
 pub mod Stock
 pub mod Claims

@@ -1,4 +1,4 @@
--- Laws of what is held, a part of a list, and of what is asked for. Assumes nothing.
+-- Laws of what is held, a part of a list, and of what is asked for.
 use Prim.Native.Nat.{ℕ, zero, suc, _+_, _-_, _≤_, _<_, min}
 use native.Mathlib.Nat.{add-assoc, add-comm, add-zero, zero-add, zero-sub}
 use native.Mathlib.Omega.{arith}

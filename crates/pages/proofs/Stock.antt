@@ -1,4 +1,4 @@
--- What a read does to what is held: it is longer by what came, and no byte is lost. Assumes nothing.
+-- What a read does to what is held: it is longer by what came, and no byte is lost.
 use Prim.Native.Nat.{ℕ, zero, suc, _+_, _-_, _≤_, _<_, min}
 use native.Mathlib.Omega.{arith}
 use mathlib.Core.Path.{_≡_, refl, sym, ap, _∙_}

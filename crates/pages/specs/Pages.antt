@@ -1,4 +1,4 @@
--- What a program holds of a file in a lent buffer, and what it has to do next. Assumes nothing.
+-- What a program holds of a file in a lent buffer, and what it has to do next.
 use Prim.Native.Nat.{ℕ, _+_, _-_, min}
 use mathlib.Core.Bool.{Bool, cond, _||_}
 use mathlib.Core.List.{List, _++_}

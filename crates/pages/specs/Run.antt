@@ -1,5 +1,5 @@
 -- A program that reads by units and writes pages, run against the chunks that its reads deliver. Such a program is a machine with a buffer and a
--- page; the machine alone says what the units mean. Assumes nothing.
+-- page; the machine alone says what the units mean.
 use Prim.Native.Nat.{ℕ, zero, suc, _+_, _-_}
 use mathlib.Core.Bool.{Bool, false}
 use mathlib.Core.List.{List, [], _∷_, _++_}

@@ -1,6 +1,6 @@
 // What a program needs that reads a file by units and writes pages: what it holds of the file in a lent
 // buffer, how that is moved to the front and a unit is cut off, and what has to be done next. It knows
-// nothing of what a unit means. Assumes nothing.
+// nothing of what a unit means.
 ghost use mathlib.Core.Path.{_≡_};
 ghost use Prim.Native.Nat.{_+_, _-_, _≤_, min};
 ghost use lib.Dec.{leb};

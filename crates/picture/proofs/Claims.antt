@@ -1,4 +1,4 @@
--- The claims of specs/Claims.antt. Assumes nothing.
+-- The claims of specs/Claims.antt.
 use mathlib.Core.Path.{_≡_, refl, _∙_}
 use mathlib.Core.Bool.{true}
 use Prim.Native.Nat.{ℕ, _+_, _*_, _/_, _<_}

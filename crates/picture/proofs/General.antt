@@ -1,4 +1,4 @@
--- Laws of rows laid end to end that are not about pictures: rows written several at a time, and a row cut out again. Assumes nothing.
+-- Laws of rows laid end to end that are not about pictures: rows written several at a time, and a row cut out again.
 use Prim.Native.Nat.{ℕ, zero, suc, _+_, _-_, _*_, _≤_, _<_}
 use mathlib.Core.Path.{_≡_, refl, sym, ap, _∙_}
 use mathlib.Core.List.{List, [], _∷_, _++_, append-nil, append-assoc}

@@ -1,5 +1,5 @@
 -- What a call of `picture_of` that gets 0 has shown: any two of its three frames may serve beside the current one, and every band of theirs that
--- lies within and has room gets 0 too. Assumes nothing.
+-- lies within and has room gets 0 too.
 use mathlib.Core.Path.{_≡_, refl, sym, ap, ap₂, _∙_}
 use mathlib.Core.Bool.{Bool, true, _&&_}
 use Prim.Native.Nat.{ℕ, _+_, _*_, _≤_}

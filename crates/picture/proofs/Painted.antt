@@ -1,4 +1,4 @@
--- Pixels that are painted from bands of samples are those of the picture. Assumes nothing.
+-- Pixels that are painted from bands of samples are those of the picture.
 use mathlib.Core.Path.{_≡_, refl, sym, ap, _∙_}
 use mathlib.Core.List.{List}
 use Prim.Native.Nat.{ℕ, _+_, _*_, _/_, _%_, _<_}

@@ -1,4 +1,4 @@
--- How large the quotient of two whole numbers is as a float: a law that is not about pictures. Assumes nothing.
+-- How large the quotient of two whole numbers is as a float: a law that is not about pictures.
 use mathlib.Core.Path.{_≡_, sym, ap, subst, _∙_}
 use mathlib.Core.Bool.{true, false, true≢false}
 use Prim.Native.Nat.{ℕ, _*_, _^_, _≤_, _<_}

@@ -1,5 +1,4 @@
 -- How large the samples of planes of bytes are: at most 256, with over-range codes among them, so that colours made of them lie from 0 to 1.
--- Assumes nothing.
 use mathlib.Core.Path.{_≡_, refl}
 use mathlib.Core.Bool.{Bool, true, false, cond}
 use mathlib.Core.List.{List}

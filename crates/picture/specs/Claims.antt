@@ -1,4 +1,4 @@
--- What the contract of `picture_of` comes to. proofs/Claims.antt proves each claim under its name in small letters. Assumes nothing.
+-- What the contract of `picture_of` comes to. proofs/Claims.antt proves each claim under its name in small letters.
 use Prim.Native.Nat.{ℕ, _*_, _+_, _<_}
 use mathlib.Core.Path.{_≡_}
 use lib.ListN.{length, getD}

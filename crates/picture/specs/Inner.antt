@@ -1,4 +1,4 @@
--- What the inner functions of `picture` promise; only they cite it. Assumes nothing.
+-- What the inner functions of `picture` promise; only they cite it.
 use Prim.Native.Nat.{ℕ, _*_, _/_, _≤_}
 use mathlib.Core.Path.{_≡_}
 use mathlib.Core.Bool.{true, _&&_}

@@ -1,4 +1,4 @@
--- A picture of three frames (docs/RULES.md, "Colour and comb"; the source is `picture_of` in filter.rs): its number, and its bytes. Assumes nothing.
+-- A picture of three frames (docs/RULES.md, "Colour and comb"; the source is `picture_of` in filter.rs): its number, and its bytes.
 use Prim.Native.Nat.{ℕ, _*_, _/_}
 use mathlib.Core.Bool.{Bool, _&&_}
 use mathlib.Core.List.{List, [], _∷_}

@@ -4,7 +4,7 @@
 // beside their shapes, the picture goes to a lent output, the caller gives the nine numbers of the
 // conversion, what is out of bounds is refused by number, and rows are made several at a time.
 //
-// A picture in red, green, blue and alpha, from three frames of three planes. Assumes nothing.
+// A picture in red, green, blue and alpha, from three frames of three planes.
 ghost use mathlib.Core.Path.{_≡_};
 ghost use Prim.Native.Nat.{_+_, _*_, _/_, _%_, _≤_, _<_};
 ghost use lib.ListN.{length, take, drop};
@@ -563,7 +563,7 @@ pub fn picture_of(
         );
     let room = bytes_of(shape.height, shape.width) <= out.len();
     let colours = colour::good_conversion(conversion);
-    let no = plane::refusal::lowest_of(true, shapes, same, whole, room, colours);
+    let no = refusal::lowest_of(true, shapes, same, whole, room, colours);
     if no == 0 {
         let shown = output.field;
         let before = output.before;

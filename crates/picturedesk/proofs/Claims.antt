@@ -1,4 +1,4 @@
--- The claim of specs/Claims.antt. Assumes nothing.
+-- The claim of specs/Claims.antt.
 use Rattle.laws.specs.Refusal.{rising}
 use Rattle.laws.proofs.Claims.{lowest-says}
 use Rattle.picturedesk.specs.Claims.{PictureSays}

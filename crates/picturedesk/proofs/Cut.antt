@@ -1,5 +1,4 @@
 -- Shapes that are cut to their places (specs/Inner.antt) change nothing of a picture: its 4 is the same, and where there is none nothing was cut.
--- Assumes nothing.
 use Prim.Native.Nat.{ℕ}
 use mathlib.Core.Path.{_≡_, ap}
 use mathlib.Core.Bool.{Bool, true, _&&_}

@@ -1,4 +1,4 @@
--- What the exported function's contract comes to. proofs/Claims.antt proves the claim under its name in small letters. Assumes nothing.
+-- What the exported function's contract comes to. proofs/Claims.antt proves the claim under its name in small letters.
 use Prim.Native.Nat.{ℕ}
 use Rattle.laws.specs.Refusal.{Says}
 use Rattle.colour.specs.declared.Conversion.{Conversion}

@@ -1,5 +1,5 @@
 -- What a private step of the export holds: frames whose numbers have to fit their places. No export's contract cites this file; proofs/Cut.antt
--- shows that the cut changes nothing. Assumes nothing.
+-- shows that the cut changes nothing.
 use Rattle.plane.specs.declared.Planes.{Planes}
 use Rattle.picture.specs.Picture.{Frame, frameOf}
 use Rattle.desk.specs.Inner.{cut}

@@ -1,4 +1,4 @@
--- Pictures by number (docs/RULES.md, "Colour and comb"; "What the desk gets back": 3 for a code that names nothing). Assumes nothing.
+-- Pictures by number (docs/RULES.md, "Colour and comb"; "What the desk gets back": 3 for a code that names nothing).
 use Prim.Native.Nat.{ℕ}
 use mathlib.Core.Bool.{Bool, false, cond, _&&_}
 use mathlib.Core.List.{List, _∷_}

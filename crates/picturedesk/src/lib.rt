@@ -1,8 +1,7 @@
 // What the capture desk's Rust host calls of pictures, beside crate `desk` and in its manner: numbers
-// and byte slices, the answer a number of docs/RULES.md, "What the desk gets back". Assumes nothing.
+// and byte slices, the answer a number of docs/RULES.md, "What the desk gets back".
 use desk::planes;
 use desk::planes::PlaneNumbers;
-use plane::refusal;
 ghost use mathlib.Core.Path.{_≡_};
 ghost use lib.ListN.{length};
 ghost use Rattle.laws.specs.Refusal.{written};

@@ -1,4 +1,4 @@
--- What a shape within the bounds has, number by number. Assumes nothing.
+-- What a shape within the bounds has, number by number.
 use Prim.Native.Nat.{ℕ, _≤_}
 use mathlib.Core.Path.{_≡_}
 use mathlib.Core.Bool.{Bool, true, _&&_}

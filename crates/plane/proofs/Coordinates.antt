@@ -1,5 +1,5 @@
 -- What the bias means: a held coordinate is the signed one, clamped into the plane it is clamped alike, its parity is the Euclidean
--- remainder of the signed one, and an offset added to it is added to the signed one. Assumes nothing.
+-- remainder of the signed one, and an offset added to it is added to the signed one.
 use mathlib.Core.Path.{_≡_, refl, sym, ap, _∙_}
 use mathlib.Core.Bool.{Bool, true, false, cond, _&&_, true≢false}
 use Prim.Native.Nat.{ℕ, zero, suc, _+_, _-_, _/_, _%_, _<_, _≤_, min, zero-le}

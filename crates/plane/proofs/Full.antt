@@ -1,4 +1,4 @@
--- The largest code of a depth is a number that a float holds exactly, and not 0. Assumes nothing.
+-- The largest code of a depth is a number that a float holds exactly, and not 0.
 use Prim.Native.Nat.{ℕ, _-_, _^_, _≤_, _<_, min, max}
 use native.Mathlib.Omega.{arith}
 use lib.Pow.{pow-mono}

@@ -1,4 +1,4 @@
--- The laws that later crates cite, and the claims. Assumes nothing.
+-- The laws that later crates cite, and the claims.
 pub mod Full
 pub mod Coordinates
 pub mod Bounds

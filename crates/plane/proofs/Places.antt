@@ -1,4 +1,4 @@
--- A sample by its layout and depth: how many bytes it has, that it stands within its plane, and where it is not shifted. Assumes nothing.
+-- A sample by its layout and depth: how many bytes it has, that it stands within its plane, and where it is not shifted.
 use mathlib.Core.Path.{_≡_, refl}
 use mathlib.Core.Bool.{false}
 use Prim.Native.Nat.{ℕ, _+_, _-_, _*_, _≤_, _<_}

@@ -1,4 +1,4 @@
--- What `code` and `at` give back (docs/RULES.md, "What the desk gets back"): the number, and the value of a call that gets 0. Assumes nothing.
+-- What `code` and `at` give back (docs/RULES.md, "What the desk gets back"): the number, and the value of a call that gets 0.
 use Prim.Native.Nat.{ℕ}
 use mathlib.Core.Bool.{Bool, _&&_}
 use mathlib.Core.List.{List, [], _∷_}

@@ -1,5 +1,4 @@
 -- What the definitions and contracts of `plane` come to. proofs/Claims.antt proves each claim under its name in small letters.
--- Assumes nothing.
 use Prim.Native.Nat.{ℕ, _<_, _≤_, _^_}
 use mathlib.Core.Path.{_≡_}
 use mathlib.Core.Bool.{true}

@@ -1,5 +1,5 @@
 -- Signed coordinates (docs/RULES.md, "Planes" and "Rows a field lacks"), and how the code holds one: from -65,544 on, so that it is a
--- natural number. The bias is even and leaves room for every offset that a filter adds. Assumes nothing.
+-- natural number. The bias is even and leaves room for every offset that a filter adds.
 use Prim.Native.Nat.{ℕ, suc, _-_, _%_, min}
 use mathlib.Core.Bool.{Bool, cond, _&&_}
 use lib.IntN.{ℤ, pos, negsuc, subℕ, natAbs, _+ℤ_}

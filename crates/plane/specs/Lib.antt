@@ -1,4 +1,4 @@
--- The definitions that the contracts of `plane` cite, and those that later crates read pictures by. Assumes nothing.
+-- The definitions that the contracts of `plane` cite, and those that later crates read pictures by.
 pub mod Plane
 pub mod Coordinates
 pub mod Answer

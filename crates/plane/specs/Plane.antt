@@ -1,5 +1,5 @@
 -- A plane of samples (docs/RULES.md, "Planes"): its bounds, where a sample stands, its code and its value.
--- Each definition holds of every shape, within the bounds or not; a read past the end gives 0. Assumes nothing.
+-- Each definition holds of every shape, within the bounds or not; a read past the end gives 0.
 use Prim.Native.Nat.{ℕ, _+_, _-_, _*_, _/_, _^_, min, max}
 use mathlib.Core.Bool.{Bool, true, false, cond, _&&_}
 use mathlib.Core.List.{List}

@@ -5,9 +5,7 @@
 //
 // A plane of samples: its shape and bounds, and what stands at a place. Narrow types make every place
 // of every shape a u64, and a read past the end gives 0, so the public functions below the two reads
-// take every input too. Assumes nothing.
-pub mod refusal;
-
+// take every input too.
 ghost use mathlib.Core.Path.{_≡_};
 ghost use Prim.Native.Nat.{_+_, _*_, _-_, _<_, _≤_, _^_, min, max};
 ghost use lib.IntN.{pos, natAbs};
@@ -339,13 +337,14 @@ fn is_inside(x: i32, size: u16) -> bool
 fn read_no(coordinates: bool, s: Shape, bytes: usize) -> u8
     ensures { λ r. ⌜ r ≡ lowest (readTests coordinates s bytes) ⌝ }
 {
-    refusal::lowest_of(
+    refusal::test(
+        refusal::OUTSIDE,
         coordinates,
-        good_shape(s),
-        true,
-        plane_bytes(s) <= bytes,
-        true,
-        true,
+        refusal::test(
+            refusal::SHAPE,
+            good_shape(s),
+            refusal::test(refusal::SHORT_INPUT, plane_bytes(s) <= bytes, refusal::DONE),
+        ),
     )
 }
 

@@ -1,4 +1,4 @@
--- Laws of tests that came out true or false. Assumes nothing.
+-- Laws of tests that came out true or false.
 use mathlib.Core.Path.{_≡_, refl, sym, _∙_}
 use mathlib.Core.Logic.{_⊎_, inl, inr}
 use mathlib.Core.Bool.{Bool, true, false, _&&_, _||_, true≢false}

@@ -1,5 +1,5 @@
 -- The claims of specs/Claims.antt, with the laws by which a later crate carries them over to its own calls: `holds` after any history,
--- `third` of any run, `push-taken` and `foretold-by` of any lock. Assumes nothing.
+-- `third` of any run, `push-taken` and `foretold-by` of any lock.
 use Prim.Native.Nat.{ℕ, zero, suc, _+_, min, _<_, _≤_}
 use native.Mathlib.Omega.{arith}
 use mathlib.Core.Path.{_≡_, refl, sym, ap, _∙_, subst}

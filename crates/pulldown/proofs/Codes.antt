@@ -1,4 +1,4 @@
--- The turn of a frame in a row of codes: the lock of the codes passed, and the cadence that takes the place of the next. Assumes nothing.
+-- The turn of a frame in a row of codes: the lock of the codes passed, and the cadence that takes the place of the next.
 use Prim.Native.Nat.{ℕ, _+_, _<_}
 use native.Mathlib.Numerals.{add-one}
 use native.Mathlib.Omega.{arith}

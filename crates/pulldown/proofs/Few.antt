@@ -1,4 +1,4 @@
--- A window of fewer than eight frames agrees with no phase: two repeats of either field and four moved frames are asked of it. Assumes nothing.
+-- A window of fewer than eight frames agrees with no phase: two repeats of either field and four moved frames are asked of it.
 use Prim.Native.Nat.{ℕ, zero, suc, _+_, _-_, _%_, _<_, _≤_}
 use native.Mathlib.Omega.{arith}
 use mathlib.Core.Path.{_≡_, refl, ap}

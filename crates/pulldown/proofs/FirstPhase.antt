@@ -1,4 +1,4 @@
--- The first phase that passes a test: how the code finds it, and what it says of the test. Assumes nothing.
+-- The first phase that passes a test: how the code finds it, and what it says of the test.
 use Prim.Native.Nat.{ℕ, zero, suc, _+_, _<_, _≤_}
 use native.Mathlib.Numerals.{add-one}
 use native.Mathlib.Omega.{arith}

@@ -1,6 +1,5 @@
 -- One frame more: what `Lock` makes of the window and the phase before is the phase and the lock frame of the run that goes on. The
 -- window is the last 15 frames of the run, and the phase before is that of the run, unless the frame is the twelfth still in a row.
--- Assumes nothing.
 use Prim.Native.Nat.{ℕ, zero, suc, _+_, min, _<_, _≤_}
 use native.Mathlib.Omega.{arith}
 use mathlib.Core.Path.{_≡_, refl, sym, _∙_}

@@ -1,5 +1,5 @@
 -- What a lock holds after a history: the last 15 frames of the run, its stills up to 12, its phase and its lock frame. It is so fresh, and
--- stays so with each frame that is taken. Assumes nothing.
+-- stays so with each frame that is taken.
 use Prim.Native.Nat.{ℕ, zero, suc, _+_, _-_, _%_, min, _<_, _≤_}
 use native.Mathlib.Omega.{arith}
 use mathlib.Core.Path.{_≡_, refl, sym, ap, _∙_}

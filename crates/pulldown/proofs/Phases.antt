@@ -1,6 +1,6 @@
 -- Laws of phases, from the frames alone: the four tests and the test that can be run are one (`meets-of`, `meets-from`); a run meets one
 -- phase at most (`one-phase`), since only step 2 expects that the first field repeats; that one is the run's phase (`phase-is`); and a
--- phase that is met after another was met is the same (`met-before`). Assumes nothing.
+-- phase that is met after another was met is the same (`met-before`).
 use Prim.Native.Nat.{ℕ, zero, suc, _+_, _<_, _≤_, suc-le-suc}
 use native.Mathlib.Omega.{arith}
 use mathlib.Core.Path.{_≡_, refl, sym, ap, _∙_, subst}

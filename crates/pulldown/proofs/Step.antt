@@ -1,5 +1,5 @@
 -- What a symbol makes of a lock whose place is in the ring: the phase that is left stays unless the symbol contradicts, and where none is left
--- the window may lock one. Assumes nothing.
+-- the window may lock one.
 use Prim.Native.Nat.{ℕ, _+_, _%_, min, _<_, _≤_}
 use native.Mathlib.Omega.{arith}
 use mathlib.Core.Path.{_≡_, refl}

@@ -1,4 +1,4 @@
--- The walk of `agrees` back through the ring: what was passed, and what is left of the window. Assumes nothing.
+-- The walk of `agrees` back through the ring: what was passed, and what is left of the window.
 use Prim.Native.Nat.{ℕ, zero, suc, _+_, _-_, _%_, _<_, _≤_}
 use native.Mathlib.Omega.{arith}
 use mathlib.Core.Path.{_≡_, refl, _∙_}

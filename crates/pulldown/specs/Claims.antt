@@ -1,6 +1,6 @@
 -- What is claimed of runs and of the lock (docs/RULES.md, "Runs, phases, cadence", "What the desk gets back", and demand 3).
 -- proofs/Claims.antt proves each claim under its name in small letters. Lists are newest first. A reset gives the fresh lock, so a
--- history starts fresh here. Assumes nothing.
+-- history starts fresh here.
 use Prim.Native.Nat.{ℕ, _+_, min, _<_, _≤_}
 use mathlib.Core.Path.{_≡_}
 use mathlib.Core.Logic.{_↔_}

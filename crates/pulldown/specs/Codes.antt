@@ -1,5 +1,5 @@
 -- Frames by what was seen of each, as a code: 0 to 3 for a symbol, any other for a frame that cannot be compared; and their cadences from a
--- fresh lock. Assumes nothing.
+-- fresh lock.
 use Prim.Native.Nat.{ℕ, zero, suc}
 use mathlib.Core.Bool.{cond}
 use mathlib.Core.List.{List, [], _∷_}

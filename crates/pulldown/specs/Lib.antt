@@ -1,4 +1,4 @@
--- The definitions that the contracts of `pulldown` cite, and the claims about them. Assumes nothing.
+-- The definitions that the contracts of `pulldown` cite, and the claims about them.
 pub mod Symbols
 pub mod Table
 pub mod Runs

@@ -1,7 +1,6 @@
 -- What the functions of `Lock` give, on every value that the struct can hold (docs/RULES.md, "Runs, phases, cadence", "What the desk gets
 -- back", 9 and 10, and "Forms that must change": the ring). Numbers that no history reaches are brought into range here as in the code:
 -- places are taken modulo 15, numbers in the ring stop at 3, a phase from 5 on is none. Claims has what comes of it after a history.
--- Assumes nothing.
 use Prim.Native.Nat.{ℕ, zero, suc, _+_, _-_, _%_, min}
 use mathlib.Core.Bool.{Bool, cond, _&&_}
 use mathlib.Core.List.{List, [], _∷_}

@@ -1,5 +1,5 @@
 -- Runs, phases, lock frames and cadences (docs/RULES.md, "Runs, phases, cadence", and demand 3), from the frames alone. Lists of frames,
--- and of what was seen of frames, are newest first. Phases are 0 to 4; 5 stands for none. Assumes nothing.
+-- and of what was seen of frames, are newest first. Phases are 0 to 4; 5 stands for none.
 use Prim.Native.Nat.{ℕ, suc, _+_, _-_, _%_, _<_, _≤_}
 use mathlib.Core.Path.{_≡_}
 use mathlib.Core.Bool.{Bool, true, false, cond, not, _&&_, _||_}

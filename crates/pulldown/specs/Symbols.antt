@@ -1,5 +1,5 @@
 -- Symbols (docs/RULES.md, "Blocks and symbols"): what the busy blocks of a frame's two fields say of it. `first` and `second` are the busy
--- blocks of the leading and the trailing field, `blocks` is the leading field's total. Assumes nothing.
+-- blocks of the leading and the trailing field, `blocks` is the leading field's total.
 use Prim.Native.Nat.{ℕ, _/_, max}
 use mathlib.Core.Bool.{Bool, cond, _&&_}
 use lib.Dec.{leb, ltb, eqb}

@@ -1,5 +1,5 @@
 -- The table of docs/RULES.md, "Runs, phases, cadence": what is expected of a frame, and its cadence, by its step. The last argument of
--- `getD` is the entry of steps from 5 on, which no frame has. Assumes nothing.
+-- `getD` is the entry of steps from 5 on, which no frame has.
 use Prim.Native.Nat.{ℕ}
 use mathlib.Core.List.{[], _∷_}
 use lib.ListN.{getD}

@@ -6,8 +6,6 @@
 //
 // The 2:3 pulldown in a sequence of frames, by what was seen of each: the symbol that block counts give,
 // and the lock on the pattern of five frames. Of pictures, stores and parities nothing is known here.
-// Assumes nothing.
-use plane::refusal;
 ghost use mathlib.Core.Path.{_≡_};
 ghost use mathlib.Core.Bool.{cond};
 ghost use Prim.Native.Nat.{ℕ, _+_, _-_, _%_, _<_, _≤_, min, max};

@@ -1,4 +1,4 @@
--- Laws of lists that say nothing of readback. Assumes nothing.
+-- Laws of lists that say nothing of readback.
 use Prim.Native.Nat.{ℕ, zero, suc, _+_, _-_, _*_, _≤_, _<_}
 use mathlib.Core.Path.{_≡_, refl, sym, ap, subst, _∙_}
 use mathlib.Core.List.{List, [], _∷_, _++_, append-assoc}

@@ -1,4 +1,4 @@
--- What a call that gets 0 has passed, and what it has written. Assumes nothing.
+-- What a call that gets 0 has passed, and what it has written.
 use Prim.Native.Nat.{ℕ}
 use mathlib.Core.Path.{_≡_, sym, ap, _∙_}
 use mathlib.Core.Bool.{Bool, true, _&&_, and-eq-true-iff}

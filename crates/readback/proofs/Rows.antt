@@ -1,4 +1,4 @@
--- Laws of rows: that the copy of a row, made by its kind, holds the plane's codes. Assumes nothing.
+-- Laws of rows: that the copy of a row, made by its kind, holds the plane's codes.
 use Prim.Native.Nat.{ℕ, _+_, _*_, _/_, _%_, _^_, _<_}
 use mathlib.Core.Path.{_≡_, refl, sym, ap, ap₂, _∙_}
 use mathlib.Core.Bool.{Bool, true, false, cond}

@@ -1,4 +1,4 @@
--- How the inner functions copy a row. Only inner functions cite this file. Assumes nothing.
+-- How the inner functions copy a row. Only inner functions cite this file.
 use Prim.Native.Nat.{ℕ, _+_, _*_, _/_, _%_, _^_, _≤_}
 use mathlib.Core.Path.{_≡_}
 use mathlib.Core.Bool.{Bool, true, cond}

@@ -1,4 +1,4 @@
--- The definitions that the contracts of `readback` cite, and the claims. Assumes nothing.
+-- The definitions that the contracts of `readback` cite, and the claims.
 pub mod Readback
 pub mod Inner
 pub mod Claims

@@ -1,5 +1,5 @@
 -- A frame read back from a device (docs/RULES.md, "Fields and readback"; the source is `frame_of_readback` in weave.rs): its number, and the three
--- planes that are copied out. Assumes nothing.
+-- planes that are copied out.
 use Prim.Native.Nat.{ℕ, _*_, _/_, _%_}
 use mathlib.Core.Bool.{Bool, cond, _&&_}
 use mathlib.Core.List.{List, [], _∷_}

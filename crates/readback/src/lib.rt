@@ -5,7 +5,7 @@
 // number, and judging stands apart from copying.
 //
 // A frame read back from a device: padding is dropped, codes in the high bits are brought down, and
-// chroma that shares a plane is separated. Assumes nothing.
+// chroma that shares a plane is separated.
 ghost use mathlib.Core.Path.{_≡_};
 ghost use mathlib.Core.Bool.{cond, _&&_};
 ghost use mathlib.Core.List.{[], _∷_};
@@ -178,21 +178,21 @@ fn lowest_of(count: bool, chroma: bool, shape: bool, short_input: bool, short_ou
     ensures { λ r. ⌜ r ≡ lowest ((1, count) ∷ (2, chroma) ∷ (4, shape) ∷ (6, «short_input») ∷ (7, «short_output») ∷ []) ⌝ }
 {
     if !count {
-        return plane::refusal::PLANE_COUNT;
+        return refusal::PLANE_COUNT;
     }
     if !chroma {
-        return plane::refusal::ONLY_LUMA;
+        return refusal::ONLY_LUMA;
     }
     if !shape {
-        return plane::refusal::SHAPE;
+        return refusal::SHAPE;
     }
     if !short_input {
-        return plane::refusal::SHORT_INPUT;
+        return refusal::SHORT_INPUT;
     }
     if short_output {
-        plane::refusal::DONE
+        refusal::DONE
     } else {
-        plane::refusal::SHORT_OUTPUT
+        refusal::SHORT_OUTPUT
     }
 }
 

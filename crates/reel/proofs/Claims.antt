@@ -1,5 +1,5 @@
 -- The proofs of what specs/Claims.antt claims. Section after section, from the end of the file to its start, the machine's turns say what the
--- definition says; Known has the numbers, and Lines what is said of each frame. Assumes nothing.
+-- definition says; Known has the numbers, and Lines what is said of each frame.
 use Prim.Native.Nat.{ℕ, zero, suc, _+_, _≤_, _<_}
 use native.Mathlib.Omega.{arith}
 use mathlib.Core.Path.{_≡_, refl}

@@ -1,5 +1,5 @@
 -- A frame that is taken is counted, and while frames are taken no total comes near the largest number that its place holds: each is at most
--- the number of frames, which stays below 4,000,000,000. So the machine's totals are those of the definition. Assumes nothing.
+-- the number of frames, which stays below 4,000,000,000. So the machine's totals are those of the definition.
 use Prim.Native.Nat.{ℕ, _+_, _≤_, _<_}
 use native.Mathlib.Omega.{arith}
 use mathlib.Core.Path.{_≡_, refl}

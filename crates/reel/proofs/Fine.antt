@@ -1,4 +1,4 @@
--- A picture that may come has some bytes, so that its turn uses bytes up. Assumes nothing.
+-- A picture that may come has some bytes, so that its turn uses bytes up.
 use Prim.Native.Nat.{ℕ, _*_, _≤_, _<_}
 use native.Mathlib.Nat.{le-trans, mul-le-mul}
 use native.Mathlib.Omega.{arith}

@@ -1,5 +1,5 @@
 -- No push of a file of bytes is refused, since its frames are few and its pictures fit the store; so what ends it is a test of a unit, whose
--- number docs/RULES.md lists. Assumes nothing.
+-- number docs/RULES.md lists.
 use Prim.Native.Nat.{ℕ, zero, suc, _+_, _-_, _*_, _≤_, _<_}
 use native.Mathlib.Nat.{le-refl, le-trans, mul-le-mul, suc-mul}
 use native.Mathlib.Omega.{arith}

@@ -1,5 +1,5 @@
 -- What is said of each frame is what demand 3 says of it: as long as frames are said, none was refused, so that detector and store are those
--- after the frames of the file up to there. Section after section, from the last. Assumes nothing.
+-- after the frames of the file up to there. Section after section, from the last.
 use Prim.Native.Nat.{ℕ, zero, suc, _+_, _-_, _*_, _<_}
 use native.Mathlib.Nat.{mul-zero, mul-suc}
 use native.Mathlib.Omega.{arith}

@@ -1,4 +1,4 @@
--- What is made of a detector's answer is what Machine says of the push. Assumes nothing.
+-- What is made of a detector's answer is what Machine says of the push.
 use Prim.Native.Nat.{ℕ, _-_, _≤_}
 use mathlib.Core.Path.{_≡_, ap, _∙_}
 use mathlib.Core.Bool.{true, cond}

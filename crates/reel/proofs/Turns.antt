@@ -1,5 +1,5 @@
 -- What is left after a turn of the machine gives what is left of the file: turns that close, that say nothing, that depend on a test, that
--- read a unit whole or find the file cut short. Assumes nothing.
+-- read a unit whole or find the file cut short.
 use Prim.Native.Nat.{ℕ, suc, _+_, _-_, _≤_, _<_}
 use native.Mathlib.Nat.{le-trans}
 use native.Mathlib.Omega.{arith}

@@ -1,4 +1,4 @@
--- What is claimed of the machine and of the definition. proofs/Claims.antt proves each claim under its name in small letters. Assumes nothing.
+-- What is claimed of the machine and of the definition. proofs/Claims.antt proves each claim under its name in small letters.
 use Prim.Native.Nat.{ℕ, _<_}
 use mathlib.Core.Path.{_≡_}
 use mathlib.Core.Logic.{_↔_}

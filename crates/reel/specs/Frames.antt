@@ -1,5 +1,5 @@
 -- The frames of a reel file by their places in it (docs/RULES.md, "Reel file and listing"): first the measured entries, then the pictures.
--- Nothing is judged here. Of a file that is refused, the frames before that place are meant. Assumes nothing.
+-- Nothing is judged here. Of a file that is refused, the frames before that place are meant.
 use Prim.Native.Nat.{ℕ, zero, suc, _+_, _-_, _*_}
 use mathlib.Core.Bool.{cond}
 use mathlib.Core.List.{List, [], _∷_}

@@ -1,4 +1,4 @@
--- What is made of a detector's answer. Only inner functions cite this; Machine says the same by the push. Assumes nothing.
+-- What is made of a detector's answer. Only inner functions cite this; Machine says the same by the push.
 use Rattle.pulldown.specs.declared.Answer.{Answer}
 use Rattle.pulldown.specs.declared.Answer.the-variants.{Gave, Refused}
 use Rattle.pulldown.specs.Lock.{lockedOf}

@@ -1,4 +1,4 @@
--- The definitions that the contracts of `reel` cite, and the claims. Assumes nothing.
+-- The definitions that the contracts of `reel` cite, and the claims.
 pub mod Reel
 pub mod Machine
 pub mod Inner

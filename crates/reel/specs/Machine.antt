@@ -1,5 +1,4 @@
 -- The same, a unit at a time: what the machine's functions give, on every state that its struct can hold, and the machine fed a whole file.
--- Assumes nothing.
 use Prim.Native.Nat.{ℕ, zero, suc, _+_, _-_, _≤_, min}
 use mathlib.Core.Path.{_≡_}
 use mathlib.Core.Bool.{Bool, cond}

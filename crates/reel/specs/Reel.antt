@@ -1,5 +1,5 @@
 -- What a reel file says (docs/RULES.md, "Reel file and listing"): its frames in order, and how it ends, from the bytes alone, section after
--- section. Any list of bytes whatever says something. Assumes nothing.
+-- section. Any list of bytes whatever says something.
 use Prim.Native.Nat.{ℕ, zero, suc, _+_, _*_, min}
 use mathlib.Core.Bool.{Bool, true, false, cond, _||_}
 use mathlib.Core.List.{List, [], _∷_}

@@ -1,6 +1,5 @@
 // The reel file (docs/RULES.md, "Reel file and listing"), read a unit at a time: each count, the shape,
 // each entry and picture, and the end. A unit says at most one thing, and nothing is written here.
-// Assumes nothing.
 ghost use mathlib.Core.Path.{_≡_};
 ghost use mathlib.Core.List.{[], _∷_};
 ghost use Prim.Native.Nat.{_<_, min};
@@ -14,9 +13,9 @@ use entry::word_at;
 use field::Cadence;
 use field::Parity;
 use plane::Grid;
-use plane::refusal::OUTSIDE;
-use plane::refusal::SHORT_INPUT;
 use pulldown::Answer;
+use refusal::OUTSIDE;
+use refusal::SHORT_INPUT;
 use telecine::Detector;
 use telecine::Pushed;
 
@@ -135,7 +134,7 @@ fn shape_no(shape: Grid, parity: u16) -> u8
     ensures { λ r. ⌜ r ≡ lowest ((3, leb parity 1) ∷ (4, goodShape (gridShape shape)) ∷ []) ⌝ }
 {
     let good = plane::good_shape(plane::shape_of(shape));
-    plane::refusal::lowest_of(parity <= 1, good, true, true, true, true)
+    refusal::lowest_of(parity <= 1, good, true, true, true, true)
 }
 
 // What refuses a count of pictures: 3 or 7.
@@ -144,7 +143,7 @@ fn picture_count_no(pictured: Pictured, n: u16) -> u8
 {
     let none = n == 0;
     let small = picture_bytes(pictured) <= 16384;
-    plane::refusal::lowest_of(none | pictured.given, true, true, true, none | small, true)
+    refusal::lowest_of(none | pictured.given, true, true, true, none | small, true)
 }
 
 fn one_more(n: u64) -> u64

@@ -1,5 +1,5 @@
 // Made by tools/calls from the exports; not to be changed by hand.
-// The calls of crate `desk`, by their numbers in the list. Assumes nothing.
+// The calls of crate `desk`, by their numbers in the list.
 use crate::names;
 use answers::lent;
 

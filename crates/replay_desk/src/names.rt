@@ -1,4 +1,4 @@
-// What is written to standard output. Where that fails, nothing more can be done. Assumes nothing.
+// What is written to standard output. Where that fails, nothing more can be done.
 
 pub fn say(text: &[u8]) {
     io::write_all(1, text);

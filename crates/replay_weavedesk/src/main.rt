@@ -4,7 +4,7 @@
 // host/differ/src/answers.rs made the list from the original. A record that differs is told at once, and a
 // list that is cut or names no call ends the run with a line that says so. Records are counted from 1. The
 // last line is the count of a list that was read to its end; of a list that is empty or broken it says that
-// nothing is shown. Assumes nothing.
+// nothing is shown.
 mod calls;
 mod names;
 

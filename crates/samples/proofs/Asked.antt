@@ -1,5 +1,5 @@
 -- The one walk of `Samples::code` and `Samples::at`: the two fields are read, and a function of `plane` is called on them and on the
--- coordinates. The two methods differ in what is called, in the result's type and in what is said of it. Assumes nothing.
+-- coordinates. The two methods differ in what is called, in the result's type and in what is said of it.
 use mathlib.Core.Path.{refl}
 use Prim.Native.Nat.{ℕ}
 use mathlib.Core.List.{List, [], _∷_}

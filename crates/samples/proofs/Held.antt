@@ -1,5 +1,5 @@
 -- The struct in the walks of its methods: its type and laws, and what it owns as the parameters of a function of the plane and the
--- shape. Assumes nothing.
+-- shape.
 use mathlib.Core.Path.{_≡_}
 use mathlib.Core.List.{[], _∷_}
 use lib.Dec.{T as Holds}

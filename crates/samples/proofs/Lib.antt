@@ -1,5 +1,5 @@
 -- The walks' common parts. The borrow checker covers no function over a struct that holds a reference, so each function's code is walked
--- by hand. Assumes nothing.
+-- by hand.
 pub mod Walk
 pub mod Held
 pub mod Number

@@ -1,4 +1,4 @@
--- The one walk of `Samples::width` and `Samples::height`: a number is read from the shape. The two differ in which. Assumes nothing.
+-- The one walk of `Samples::width` and `Samples::height`: a number is read from the shape. The two differ in which.
 use mathlib.Core.Path.{_≡_, refl, sym, ap, subst}
 use Prim.Native.Nat.{ℕ, _<_, _^_}
 use mathlib.Core.Option.{some}

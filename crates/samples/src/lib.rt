@@ -5,7 +5,6 @@
 //
 // A lent plane kept together with its shape, for a viewer that asks for one sample after another. A
 // function that has such a struct is proved by hand, so each is thin: the work is that of `plane`.
-// Assumes nothing.
 ghost use mathlib.Core.Path.{_≡_};
 ghost use lib.IntN.{natAbs};
 ghost use lib.ListN.{length};

@@ -1,4 +1,4 @@
--- The columns of an expanded row, by their distance from a column of the line. Assumes nothing.
+-- The columns of an expanded row, by their distance from a column of the line.
 use mathlib.Core.Path.{_≡_, sym, _∙_, ap}
 use mathlib.Core.List.{List}
 use mathlib.Core.Logic.{_⊎_, inl, inr, ⊎-elim}

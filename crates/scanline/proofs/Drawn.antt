@@ -1,4 +1,4 @@
--- A line of which n samples are written, as each loop over a line has it, and what it is once all are. Assumes nothing.
+-- A line of which n samples are written, as each loop over a line has it, and what it is once all are.
 use mathlib.Core.Path.{_≡_, refl, sym, _∙_, ap}
 use mathlib.Core.List.{List}
 use Prim.Native.Nat.{ℕ, _+_, _≤_, _<_, zero-le}

@@ -1,4 +1,4 @@
--- The laws that the proofs cite, here and in crates above, and the claims. Assumes nothing.
+-- The laws that the proofs cite, here and in crates above, and the claims.
 pub mod Columns
 pub mod Slants
 pub mod Drawn

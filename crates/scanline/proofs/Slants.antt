@@ -1,4 +1,4 @@
--- The filters over expanded rows agree with those over samplers. Assumes nothing.
+-- The filters over expanded rows agree with those over samplers.
 use mathlib.Core.Path.{_≡_, refl, _∙_, ap}
 use mathlib.Core.Bool.{Bool, true, false, cond}
 use mathlib.Core.List.{List}

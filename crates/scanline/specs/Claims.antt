@@ -1,5 +1,5 @@
 -- A line made from rows of samplers has the filters' values of those samplers, and its number says whether it was made.
--- proofs/Claims.antt proves each claim under its name in small letters. Assumes nothing.
+-- proofs/Claims.antt proves each claim under its name in small letters.
 use Prim.Native.Nat.{ℕ, _<_}
 use mathlib.Core.Path.{_≡_}
 use mathlib.Core.List.{List}

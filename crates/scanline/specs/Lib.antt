@@ -1,4 +1,4 @@
--- The definitions that the contracts of `scanline` cite, and what they come to. Assumes nothing.
+-- The definitions that the contracts of `scanline` cite, and what they come to.
 pub mod Rows
 pub mod Lines
 pub mod Claims

@@ -1,5 +1,5 @@
 -- A line made from expanded rows: the steps of crates/filter, reading places of lists. That they give what the filters give of the samplers
--- behind the rows is said in Claims. Assumes nothing.
+-- behind the rows is said in Claims.
 use Prim.Native.Nat.{ℕ, zero, suc, _+_, _-_, _*_}
 use mathlib.Core.Bool.{Bool, cond, _&&_}
 use mathlib.Core.List.{List, [], _∷_}

@@ -1,6 +1,6 @@
 -- Rows of a plane, expanded to floats. The plane is known by its sampler, a value at two coordinates. An expanded row is a list of 8,204
 -- floats: column x stands at x + 6, and six columns on each side hold what the sampler gives past the edges, so that the furthest slant,
--- 3 * 2 columns off, stays in the list. Assumes nothing.
+-- 3 * 2 columns off, stays in the list.
 use Prim.Native.Nat.{ℕ, _+_, _<_}
 use mathlib.Core.Path.{_≡_}
 use mathlib.Core.List.{List}

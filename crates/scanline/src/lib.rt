@@ -5,7 +5,7 @@
 //
 // One line of samples: cur's own, or by Bob, Yadif or Bwdif. A row comes as 8,204 floats: the samples
 // from place 6 on, and on each side the six columns past the edge. So the loops over a line read with
-// neither a clamp nor a test, and are vectorised. Assumes nothing.
+// neither a clamp nor a test, and are vectorised.
 ghost use mathlib.Core.Path.{_≡_};
 ghost use Prim.Native.Nat.{_≤_};
 ghost use lib.ListN.{length};
@@ -233,9 +233,9 @@ fn line_no(width: usize) -> u8
     ensures { λ r. ⌜ r ≡ lineNo width ⌝ }
 {
     if (1 <= width) & (width <= 8192) {
-        plane::refusal::DONE
+        refusal::DONE
     } else {
-        plane::refusal::SHAPE
+        refusal::SHAPE
     }
 }
 

@@ -1,5 +1,5 @@
 -- How the two kinds of push end: the numbers that a picture's tests give, what the lock's answer says by its case, and from these what the
--- call gives back. Assumes nothing.
+-- call gives back.
 use Prim.Native.Nat.{ℕ, _*_}
 use native.Mathlib.Omega.{arith}
 use mathlib.Core.Path.{_≡_, refl, sym, ap, _∙_}

@@ -1,5 +1,5 @@
 -- What detector and store hold after a history, by its frames alone: the lock what was seen of them, the kept shape and the store the last
--- picture, and the last parity. It is so fresh and after a reset, and stays so with each push, taken or refused. Assumes nothing.
+-- picture, and the last parity. It is so fresh and after a reset, and stays so with each push, taken or refused.
 use Prim.Native.Nat.{ℕ, zero, suc, _+_, _*_, _<_, _≤_}
 use native.Mathlib.Omega.{arith}
 use mathlib.Core.Path.{_≡_, refl, sym, ap, _∙_}

@@ -1,5 +1,5 @@
 -- A store that begins with the kept frame of a picture shows that picture: blocks are counted against it as against the frame alone, since
--- no block reaches past the frame. Assumes nothing.
+-- no block reaches past the frame.
 use Prim.Native.Nat.{ℕ, suc, _+_, _*_, _<_, _≤_}
 use native.Mathlib.Nat.{suc-mul, mul-le-mul-right}
 use native.Mathlib.Omega.{arith}

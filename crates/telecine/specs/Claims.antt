@@ -1,7 +1,7 @@
 -- What is claimed of the detector over calls (docs/RULES.md, "Runs, phases, cadence", "What the desk gets back", "How tight the statements
 -- are", and demand 3). proofs/Claims.antt proves each claim under its name in small letters. No claim supposes anything of a history: calls
 -- that are refused may stand anywhere, and `taken` leaves them out. Lists of calls are newest first. Of the answers themselves, and of 10,
--- crate `pulldown` has the claims. Assumes nothing.
+-- crate `pulldown` has the claims.
 use Prim.Native.Nat.{ℕ, _+_, _<_}
 use mathlib.Core.Path.{_≡_}
 use mathlib.Core.Logic.{_↔_}

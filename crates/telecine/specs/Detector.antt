@@ -1,6 +1,6 @@
 -- What each call of the detector gives, on every value that its struct can hold (docs/RULES.md, "Blocks and symbols", "What the desk gets
 -- back", 4, 6, 7 and 9, and "Forms that must change": the store). `locked` and `predict` are those of the lock (crate `pulldown`). Claims
--- has what comes of it over several calls. Assumes nothing.
+-- has what comes of it over several calls.
 use Prim.Native.Nat.{ℕ, _*_}
 use mathlib.Core.Bool.{Bool, true, false, cond, not, _&&_}
 use mathlib.Core.List.{List, [], _∷_}

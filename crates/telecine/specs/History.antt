@@ -1,6 +1,6 @@
 -- Histories of calls on a fresh detector (docs/RULES.md, "Blocks and symbols", "Runs, phases, cadence", "What the desk gets back"). First what
 -- the calls leave, with the store lent back as it was left; then the same from the frames alone: what was seen of each, its run, and what
--- is refused. Lists of calls are newest first. Assumes nothing.
+-- is refused. Lists of calls are newest first.
 use Prim.Native.Nat.{ℕ, _*_}
 use mathlib.Core.Bool.{Bool, cond}
 use mathlib.Core.List.{List, [], _∷_}

@@ -1,4 +1,4 @@
--- The definitions that the contracts of `telecine` cite, histories of calls, and the claims about them. Assumes nothing.
+-- The definitions that the contracts of `telecine` cite, histories of calls, and the claims about them.
 pub mod Detector
 pub mod History
 pub mod Claims

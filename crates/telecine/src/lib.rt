@@ -6,7 +6,6 @@
 // cannot be taken is refused by number.
 //
 // The detector of 2:3 pulldown: pictures with a lent store, counts that were measured elsewhere, resets.
-// Assumes nothing.
 ghost use mathlib.Core.Path.{_≡_};
 ghost use mathlib.Core.Bool.{_&&_};
 ghost use mathlib.Core.List.{[], _∷_};
@@ -151,7 +150,7 @@ fn picture_no(kept: Kept, grid: Grid, bytes: usize, room: usize) -> u8
     let long = plane::plane_bytes(shape) <= bytes;
     let held = kept_bytes(kept) <= room;
     let fits = frame_bytes(grid.height, grid.width) <= room;
-    plane::refusal::lowest_of(true, good, true, long & held, fits, true)
+    refusal::lowest_of(true, good, true, long & held, fits, true)
 }
 
 impl Detector {

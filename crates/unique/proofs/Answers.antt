@@ -1,4 +1,4 @@
--- Nothing else would satisfy a contract of `answers`. Assumes nothing.
+-- Nothing else would satisfy a contract of `answers`.
 use mathlib.Core.Path.{refl}
 use Rattle.answers.proofs.number.Kinds as number-kinds
 use Rattle.answers.proofs.number.Reads as number

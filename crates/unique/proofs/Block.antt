@@ -1,4 +1,4 @@
--- Nothing else would satisfy a contract of `block`. Assumes nothing.
+-- Nothing else would satisfy a contract of `block`.
 use mathlib.Core.Path.{refl}
 use Rattle.block.proofs.Claims.{one-counted}
 use Rattle.block.proofs.count.Kinds as count-kinds

@@ -1,4 +1,4 @@
--- Nothing else would satisfy a contract of `colour`. Assumes nothing.
+-- Nothing else would satisfy a contract of `colour`.
 use mathlib.Core.Path.{refl}
 use Rattle.colour.proofs.Claims.{one-coloured}
 use Rattle.colour.proofs.Primaries.luma.Kinds as luma-kinds

@@ -1,4 +1,4 @@
--- Nothing else would satisfy a contract of `comb`. Assumes nothing.
+-- Nothing else would satisfy a contract of `comb`.
 use mathlib.Core.Path.{refl}
 use Rattle.comb.proofs.Claims.{one-combed}
 use Rattle.comb.proofs.comb.Kinds as comb-kinds

@@ -1,4 +1,4 @@
--- Nothing else would satisfy the contract of `copy`. Assumes nothing.
+-- Nothing else would satisfy the contract of `copy`.
 use mathlib.Core.Path.{refl}
 use Rattle.copy.proofs.copy_front.Kinds as copy-front-kinds
 use Rattle.copy.proofs.copy_front.Reads as copy-front

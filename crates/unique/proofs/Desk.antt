@@ -1,5 +1,5 @@
 -- Made by tools/calls from the exports; not to be changed by hand.
--- Nothing else would satisfy a contract of `desk`. Assumes nothing.
+-- Nothing else would satisfy a contract of `desk`.
 use mathlib.Core.Path.{refl}
 use Rattle.desk.proofs.colours.desk_to_rgb.Kinds as desk-to-rgb-kinds
 use Rattle.desk.proofs.colours.desk_to_rgb.Reads as desk-to-rgb

@@ -1,4 +1,4 @@
--- Nothing else would satisfy a contract of `entry`. Assumes nothing.
+-- Nothing else would satisfy a contract of `entry`.
 use mathlib.Core.Path.{refl}
 use Rattle.entry.proofs.word_at.Kinds as word-at-kinds
 use Rattle.entry.proofs.word_at.Reads as word-at

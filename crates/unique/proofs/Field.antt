@@ -1,4 +1,4 @@
--- Nothing else would satisfy a contract of `field`. Assumes nothing.
+-- Nothing else would satisfy a contract of `field`.
 use mathlib.Core.Path.{refl}
 use Rattle.field.proofs.Parity.first_row.Kinds as first-row-kinds
 use Rattle.field.proofs.Parity.first_row.Reads as first-row

@@ -1,4 +1,4 @@
--- Nothing else would satisfy a contract of `fill`. Assumes nothing.
+-- Nothing else would satisfy a contract of `fill`.
 use mathlib.Core.Path.{refl}
 use Rattle.fill.proofs.band.Kinds as band-kinds
 use Rattle.fill.proofs.band.Reads as band

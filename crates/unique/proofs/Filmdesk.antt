@@ -1,5 +1,5 @@
 -- Made by tools/calls from the exports; not to be changed by hand.
--- Nothing else would satisfy a contract of `filmdesk`. Assumes nothing.
+-- Nothing else would satisfy a contract of `filmdesk`.
 use mathlib.Core.Path.{refl}
 use Rattle.filmdesk.proofs.desk_busy.Kinds as desk-busy-kinds
 use Rattle.filmdesk.proofs.desk_busy.Reads as desk-busy

@@ -1,4 +1,4 @@
--- Nothing else would satisfy a contract of `filter`. Assumes nothing.
+-- Nothing else would satisfy a contract of `filter`.
 use mathlib.Core.Path.{refl}
 use Rattle.filter.proofs.Claims.{one-edged}
 use Rattle.plane.proofs.Claims.{one-sampled}

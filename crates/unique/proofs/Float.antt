@@ -1,4 +1,4 @@
--- Nothing else would satisfy a contract of `float`. Assumes nothing.
+-- Nothing else would satisfy a contract of `float`.
 use mathlib.Core.Path.{refl}
 use Rattle.float.proofs.abs.Kinds as abs-kinds
 use Rattle.float.proofs.abs.Reads as abs

@@ -1,5 +1,5 @@
 -- Why one answer is left: what a contract says of a result, or of a lent place, is an equation with one and the same thing. In each lemma p is what
--- the contract says of the first answer, clause by clause, and q of the second. Assumes nothing.
+-- the contract says of the first answer, clause by clause, and q of the second.
 use Prim.Native.Nat.{ℕ}
 use mathlib.Core.Path.{_≡_, sym, ap, subst, _∙_}
 use mathlib.Core.List.{List}

@@ -1,5 +1,5 @@
 -- Made by tools/calls; not to be changed by hand.
--- Of each public function, that its contract leaves one answer. Assumes nothing.
+-- Of each public function, that its contract leaves one answer.
 pub mod Law
 pub mod Answers
 pub mod Block

@@ -1,4 +1,4 @@
--- Nothing else would satisfy a contract of `listing`. Assumes nothing.
+-- Nothing else would satisfy a contract of `listing`.
 use Prim.Native.Nat.{ℕ}
 use mathlib.Core.Path.{_≡_, refl, ap, ap₂}
 use mathlib.Core.List.{List}

@@ -1,4 +1,4 @@
--- Nothing else would satisfy a contract of `packed`. Assumes nothing.
+-- Nothing else would satisfy a contract of `packed`.
 use mathlib.Core.Path.{refl}
 use Rattle.packed.proofs.number_at.Kinds as number-at-kinds
 use Rattle.packed.proofs.number_at.Reads as number-at

@@ -1,4 +1,4 @@
--- Nothing else would satisfy a contract of `pages`. Assumes nothing.
+-- Nothing else would satisfy a contract of `pages`.
 use mathlib.Core.Path.{refl}
 use denote.Ref.{now}
 use Rattle.pages.proofs.Held.nothing.Kinds as nothing-kinds

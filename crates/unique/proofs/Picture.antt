@@ -1,4 +1,4 @@
--- Nothing else would satisfy a contract of `picture`. Assumes nothing.
+-- Nothing else would satisfy a contract of `picture`.
 use mathlib.Core.Path.{refl}
 use Rattle.picture.proofs.picture_of.Kinds as picture-of-kinds
 use Rattle.picture.proofs.picture_of.Reads as picture-of

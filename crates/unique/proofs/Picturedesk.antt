@@ -1,5 +1,5 @@
 -- Made by tools/calls from the exports; not to be changed by hand.
--- Nothing else would satisfy a contract of `picturedesk`. Assumes nothing.
+-- Nothing else would satisfy a contract of `picturedesk`.
 use mathlib.Core.Path.{refl}
 use Rattle.picturedesk.proofs.desk_picture.Kinds as desk-picture-kinds
 use Rattle.picturedesk.proofs.desk_picture.Reads as desk-picture

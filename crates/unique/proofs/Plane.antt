@@ -1,4 +1,4 @@
--- Nothing else would satisfy a contract of `plane`. Assumes nothing.
+-- Nothing else would satisfy a contract of `plane`.
 use mathlib.Core.Path.{refl}
 use Rattle.plane.proofs.Claims.{one-coded, one-sampled}
 use Rattle.plane.proofs.components_of.Kinds as components-of-kinds

@@ -1,4 +1,4 @@
--- Nothing else would satisfy a contract of `pulldown`. Assumes nothing.
+-- Nothing else would satisfy a contract of `pulldown`.
 use mathlib.Core.Path.{refl}
 use Rattle.pulldown.proofs.Claims.{answer-settled}
 use Rattle.pulldown.proofs.classify_counts.Kinds as classify-counts-kinds

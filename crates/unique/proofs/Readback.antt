@@ -1,4 +1,4 @@
--- Nothing else would satisfy a contract of `readback`. Assumes nothing.
+-- Nothing else would satisfy a contract of `readback`.
 use mathlib.Core.Path.{refl}
 use Rattle.readback.proofs.readback_no.Kinds as readback-no-kinds
 use Rattle.readback.proofs.readback_no.Reads as readback-no

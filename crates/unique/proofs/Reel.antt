@@ -1,4 +1,4 @@
--- Nothing else would satisfy a contract of `reel`. Assumes nothing.
+-- Nothing else would satisfy a contract of `reel`.
 use mathlib.Core.Path.{refl}
 use Rattle.reel.proofs.Reel.start.Kinds as start-kinds
 use Rattle.reel.proofs.Reel.start.Reads as start

@@ -1,4 +1,4 @@
--- Nothing else would satisfy a contract of `scanline`. Assumes nothing.
+-- Nothing else would satisfy a contract of `scanline`.
 use mathlib.Core.Path.{refl}
 use Rattle.scanline.proofs.own.Kinds as own-kinds
 use Rattle.scanline.proofs.own.Reads as own

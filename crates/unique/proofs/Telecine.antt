@@ -1,4 +1,4 @@
--- Nothing else would satisfy a contract of `telecine`. Assumes nothing.
+-- Nothing else would satisfy a contract of `telecine`.
 use mathlib.Core.Path.{refl}
 use Rattle.pulldown.proofs.Claims.{answer-settled}
 use Rattle.telecine.proofs.Claims.{pushed-settled}

@@ -1,4 +1,4 @@
--- Nothing else would satisfy a contract of `weave`. Assumes nothing.
+-- Nothing else would satisfy a contract of `weave`.
 use mathlib.Core.Path.{refl}
 use Rattle.weave.proofs.good_field.Kinds as good-field-kinds
 use Rattle.weave.proofs.good_field.Reads as good-field

@@ -1,5 +1,5 @@
 -- Made by tools/calls from the exports; not to be changed by hand.
--- Nothing else would satisfy a contract of `weavedesk`. Assumes nothing.
+-- Nothing else would satisfy a contract of `weavedesk`.
 use mathlib.Core.Path.{refl}
 use Rattle.weavedesk.proofs.desk_weave.Kinds as desk-weave-kinds
 use Rattle.weavedesk.proofs.desk_weave.Reads as desk-weave

@@ -1,4 +1,4 @@
--- Nothing else would satisfy a contract of `weaver`. Assumes nothing.
+-- Nothing else would satisfy a contract of `weaver`.
 use mathlib.Core.Path.{refl}
 use Rattle.laws.specs.Refusal.{whenDone}
 use Rattle.weaver.specs.Weaver.{pictureTimes, pushWeaver}

@@ -1,5 +1,5 @@
 -- What it means that nothing else would satisfy a contract (docs/RULES.md, "How tight the statements are"). The very contract is meant: for a
--- function, `meets` is its `Post`, which is its `ensures` read as a plain type. Assumes nothing.
+-- function, `meets` is its `Post`, which is its `ensures` read as a plain type.
 use Prim.Native.Nat.{ℕ}
 use mathlib.Core.Path.{_≡_}
 use mathlib.Core.List.{List}

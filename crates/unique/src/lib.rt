@@ -1,2 +1,1 @@
 // No function: for each public function of the other crates, that its contract leaves one answer.
-// Assumes nothing.

@@ -1,4 +1,4 @@
--- What planes that can be woven have, number by number, and where their lines stand. Assumes nothing.
+-- What planes that can be woven have, number by number, and where their lines stand.
 use Prim.Native.Nat.{ℕ, _+_, _-_, _*_, _/_, _%_, _≤_, _<_}
 use mathlib.Core.Path.{_≡_, refl, sym, ap, ap₂, _∙_}
 use mathlib.Core.Bool.{Bool, true, false, cond, _&&_}

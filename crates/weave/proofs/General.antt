@@ -1,4 +1,4 @@
--- Laws of rows laid end to end that are not about weaving. Assumes nothing.
+-- Laws of rows laid end to end that are not about weaving.
 use Prim.Native.Nat.{ℕ, suc, _+_, _-_, _*_, _≤_, _<_, min}
 use mathlib.Core.Path.{_≡_, sym, subst, _∙_}
 use mathlib.Core.List.{List, _++_}

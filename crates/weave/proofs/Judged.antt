@@ -1,4 +1,4 @@
--- What a call that gets 0 has shown, of each plane that it weaves, and how a call ends. Assumes nothing.
+-- What a call that gets 0 has shown, of each plane that it weaves, and how a call ends.
 use Prim.Native.Nat.{ℕ, _*_, _≤_, _<_}
 use mathlib.Core.Path.{_≡_, sym, ap, _∙_}
 use mathlib.Core.Bool.{Bool, true, _&&_}

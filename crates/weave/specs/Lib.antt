@@ -1,3 +1,3 @@
--- The definitions that the contracts of `weave` cite, and the claims. Assumes nothing.
+-- The definitions that the contracts of `weave` cite, and the claims.
 pub mod Weave
 pub mod Claims

@@ -1,5 +1,4 @@
 -- Two fields woven into a frame (docs/RULES.md, "Fields and readback", "Planes"; the source is weave.rs): the numbers, the lines, the planes.
--- Assumes nothing.
 use Prim.Native.Nat.{ℕ, _+_, _*_, _/_, _%_, min}
 use mathlib.Core.Bool.{Bool, true, false, cond, _&&_}
 use mathlib.Core.List.{List, [], _∷_}

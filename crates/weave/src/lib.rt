@@ -4,7 +4,7 @@
 // beside their shapes, the woven planes go to lent outputs, what is out of bounds is refused by number,
 // and a single woven line was added.
 //
-// Two fields woven into one frame, line by line. Assumes nothing.
+// Two fields woven into one frame, line by line.
 ghost use mathlib.Core.Path.{_≡_};
 ghost use mathlib.Core.List.{[], _++_};
 ghost use Prim.Native.Nat.{_+_, _≤_};
@@ -171,7 +171,7 @@ pub fn weave(
     let whole = whole_field(top, top_luma.len(), top_cb.len(), top_cr.len())
         & whole_field(bottom, bottom_luma.len(), bottom_cb.len(), bottom_cr.len());
     let room = room_for(top, out_luma.len(), out_cb.len(), out_cr.len());
-    let no = plane::refusal::lowest_of(true, shapes, same, whole, room, true);
+    let no = refusal::lowest_of(true, shapes, same, whole, room, true);
     if no == 0 {
         weave_plane(out_luma, top_luma, top.luma, bottom_luma, bottom.luma);
         weave_plane(out_cb, top_cb, top.cb, bottom_cb, bottom.cb);
@@ -184,7 +184,7 @@ pub fn weave(
 pub fn line_no(top: Lines, top_bytes: usize, bottom: Lines, bottom_bytes: usize, y: u32) -> u8
     ensures { λ r. ⌜ r ≡ lineNo top «top_bytes» bottom «bottom_bytes» y ⌝ }
 {
-    plane::refusal::lowest_of(
+    refusal::lowest_of(
         y < (top.height as u32) * 2,
         good_lines(top) & good_lines(bottom),
         lines_agree(top, bottom),

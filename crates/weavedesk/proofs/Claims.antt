@@ -1,4 +1,4 @@
--- The claims of specs/Claims.antt. Assumes nothing.
+-- The claims of specs/Claims.antt.
 use Rattle.laws.specs.Refusal.{rising}
 use Rattle.laws.proofs.Claims.{lowest-says}
 use Rattle.weavedesk.specs.Claims.{WeaveSays, LineSays, LineOutSays, ReadbackSays, NewSays, ClearSays, PushSays}

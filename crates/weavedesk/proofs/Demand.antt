@@ -1,4 +1,4 @@
--- The weaver's claims over the exported calls. Assumes nothing.
+-- The weaver's claims over the exported calls.
 use Prim.Native.Nat.{ℕ, _<_, _≤_}
 use mathlib.Core.Path.{_≡_, refl, sym, ap, subst, _∙_}
 use mathlib.Core.Bool.{Bool, true, false, _&&_}

@@ -1,4 +1,4 @@
--- Laws of the lowest refusal of two lists of tests, one behind the other. Assumes nothing.
+-- Laws of the lowest refusal of two lists of tests, one behind the other.
 use Prim.Native.Nat.{ℕ, _≤_, _<_}
 use mathlib.Core.Path.{_≡_, refl}
 use mathlib.Core.Bool.{Bool, true, false, _&&_}

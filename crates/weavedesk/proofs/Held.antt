@@ -1,4 +1,4 @@
--- The state always holds the weaver that the calls leave, of the fields that the host means. Assumes nothing.
+-- The state always holds the weaver that the calls leave, of the fields that the host means.
 use Prim.Native.Nat.{ℕ, _≤_, _<_, _^_}
 use mathlib.Core.Path.{_≡_, refl, ap, _∙_}
 use mathlib.Core.Bool.{Bool, true, false, cond, _&&_}

@@ -1,4 +1,4 @@
--- Laws of a weaver in the state's bytes. Assumes nothing.
+-- Laws of a weaver in the state's bytes.
 use Prim.Native.Nat.{ℕ, _*_, _≤_}
 use mathlib.Core.Path.{_≡_, ap, _∙_}
 use mathlib.Core.List.{List}

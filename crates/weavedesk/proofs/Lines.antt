@@ -1,4 +1,4 @@
--- How a call ends that copies out a single woven line: refused with the line's own number, refused for want of room, or done. Assumes nothing.
+-- How a call ends that copies out a single woven line: refused with the line's own number, refused for want of room, or done.
 use Prim.Native.Nat.{ℕ, _-_, _*_, _≤_, _<_}
 use mathlib.Core.Path.{_≡_, refl, sym, ap, _∙_}
 use mathlib.Core.Bool.{true, false}

@@ -1,5 +1,5 @@
 -- Numbers are narrowed for the crates beneath, and no answer changes by it: shapes within the bounds are not cut, and others are refused before
--- anything reads their sizes. One law says so for all calls (`judged`). Assumes nothing.
+-- anything reads their sizes. One law says so for all calls (`judged`).
 use Prim.Native.Nat.{ℕ, _*_, _≤_, _<_, min}
 use mathlib.Core.Path.{_≡_, refl, sym, ap, _∙_}
 use mathlib.Core.Logic.{_⊎_, inl, inr, ⊎-elim}

@@ -1,4 +1,4 @@
--- How a call ends that pushes a field: refused by the codes, the shapes or the state's length, refused by the weaver, or done. Assumes nothing.
+-- How a call ends that pushes a field: refused by the codes, the shapes or the state's length, refused by the weaver, or done.
 use Prim.Native.Nat.{ℕ, _≤_}
 use mathlib.Core.Path.{_≡_, refl, sym, ap, subst, _∙_}
 use mathlib.Core.Bool.{Bool, true, false, cond, _&&_}

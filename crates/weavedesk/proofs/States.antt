@@ -1,4 +1,4 @@
--- A weaver in the state's bytes is found again, and its numbers have the sizes of their places. Assumes nothing.
+-- A weaver in the state's bytes is found again, and its numbers have the sizes of their places.
 use Prim.Native.Nat.{ℕ, _%_, _≤_, _<_, _^_}
 use mathlib.Core.Path.{_≡_, refl, ap, _∙_}
 use mathlib.Core.Bool.{Bool, true, false, cond}

@@ -1,4 +1,4 @@
--- Laws of whole numbers of 64 bits as the code counts with them: a number below 0 as -(n + 1), and back. Assumes nothing.
+-- Laws of whole numbers of 64 bits as the code counts with them: a number below 0 as -(n + 1), and back.
 use Prim.Native.Nat.{ℕ, zero, suc, _+_, _-_, _<_, _^_}
 use mathlib.Core.Path.{_≡_, refl, sym, ap, subst, _∙_}
 use mathlib.Core.Bool.{Bool, true, false, true≢false}

@@ -1,6 +1,6 @@
 -- Histories of the exported calls on a weaver, from `desk_weaver_new` on, state and store lent back as they were left; refused calls may stand
 -- anywhere. First what the calls leave, by the very definitions that their contracts cite; then the fields that the host's numbers mean, spelled out
--- here and nowhere taken from the contracts, so that the two can be held against each other. Lists of calls are newest first. Assumes nothing.
+-- here and nowhere taken from the contracts, so that the two can be held against each other. Lists of calls are newest first.
 use Prim.Native.Nat.{ℕ, _<_, _^_}
 use mathlib.Core.Path.{_≡_}
 use mathlib.Core.Bool.{Bool, cond, _&&_}

@@ -1,5 +1,5 @@
 -- What inner functions give: numbers narrowed for the crates beneath, and what an answer of the weaver holds. Only contracts of inner functions cite
--- this file. Assumes nothing.
+-- this file.
 use Prim.Native.Nat.{min}
 use mathlib.Core.List.{List, [], _∷_}
 use Rattle.weave.specs.declared.Lines.{Lines}

@@ -1,4 +1,4 @@
--- The definitions that the exported functions' contracts cite, histories of calls, and the claims. Assumes nothing.
+-- The definitions that the exported functions' contracts cite, histories of calls, and the claims.
 pub mod Woven
 pub mod Waiting
 pub mod Push

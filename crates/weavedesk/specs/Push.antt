@@ -1,5 +1,5 @@
 -- What the exported calls on a weaver give, each part by its name: the number, and what each lent place then holds. Contracts and histories cite the
--- same definitions. Assumes nothing.
+-- same definitions.
 use Prim.Native.Nat.{ℕ}
 use mathlib.Core.Bool.{Bool, cond, _&&_}
 use mathlib.Core.List.{List, [], _∷_}

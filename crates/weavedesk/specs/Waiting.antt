@@ -1,5 +1,5 @@
 -- A weaver kept in lent bytes between calls: 7 numbers of eight bytes. Every list of bytes is some weaver, so that no call has to trust what it is
--- lent. Assumes nothing.
+-- lent.
 use Prim.Native.Nat.{ℕ, _%_, _^_}
 use mathlib.Core.Bool.{cond}
 use mathlib.Core.List.{List, [], _∷_}

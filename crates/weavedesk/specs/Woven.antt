@@ -1,5 +1,5 @@
 -- Weaving and readback by number (docs/RULES.md, "Fields and readback", "What the desk gets back"). Numbers are meant as the host gives them, however
--- large they are. Assumes nothing.
+-- large they are.
 use Prim.Native.Nat.{ℕ}
 use mathlib.Core.Bool.{Bool, true, false, not}
 use mathlib.Core.List.{List, [], _∷_, _++_}

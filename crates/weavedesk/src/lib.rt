@@ -2,10 +2,9 @@
 // manner: numbers and byte slices, the answer a number of docs/RULES.md, "What the desk gets back", a
 // value to a lent place, which a refusal leaves as it was. Numbers are wider than a shape's own, so
 // that none can wrap into the bounds. Between calls the host keeps the weaver in 56 bytes that it
-// lends. Assumes nothing.
+// lends.
 use desk::planes;
 use field::Parity;
-use plane::refusal;
 use weaver::Paired;
 use weaver::Time;
 use weaver::Weaver;

@@ -1,4 +1,4 @@
--- What is written of a pair by the kept field's parity, and how a push ends: refused, with a picture, or with a field that waits. Assumes nothing.
+-- What is written of a pair by the kept field's parity, and how a push ends: refused, with a picture, or with a field that waits.
 use Prim.Native.Nat.{ℕ}
 use mathlib.Core.Path.{_≡_, sym, ap, _∙_}
 use mathlib.Core.Bool.{Bool, true, false}

@@ -1,4 +1,4 @@
--- Laws of numbers, of tests and of lists that are not about weaving. Assumes nothing.
+-- Laws of numbers, of tests and of lists that are not about weaving.
 use Prim.Native.Nat.{ℕ, _+_, _*_, _≤_, _<_}
 use mathlib.Core.Path.{_≡_, refl, sym, ap, _∙_}
 use mathlib.Core.Bool.{Bool, true, false, cond, _&&_}

@@ -1,5 +1,5 @@
 -- What weaver and store hold after a history, by who waits: the weaver that field's shape, parity and time, and the store's front its planes. It is
--- so at the start and after a `clear`, and stays so with each push, taken or refused. Assumes nothing.
+-- so at the start and after a `clear`, and stays so with each push, taken or refused.
 use Prim.Native.Nat.{ℕ, zero, suc, _+_, _≤_}
 use native.Mathlib.Omega.{arith}
 use mathlib.Core.Path.{_≡_, refl, sym, ap, subst, _∙_}

@@ -1,4 +1,4 @@
--- What a field that gets 0 has shown, and that it can then be woven with a packed field of its size. Assumes nothing.
+-- What a field that gets 0 has shown, and that it can then be woven with a packed field of its size.
 use Prim.Native.Nat.{ℕ, _+_, _-_, _≤_}
 use mathlib.Core.Path.{_≡_, refl, sym, subst}
 use mathlib.Core.Bool.{Bool, true, false, cond, _&&_}

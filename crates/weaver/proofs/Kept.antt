@@ -1,4 +1,4 @@
--- A packed plane weaves as the plane itself, and a store that begins with a packed field keeps that field. Assumes nothing.
+-- A packed plane weaves as the plane itself, and a store that begins with a packed field keeps that field.
 use Prim.Native.Nat.{ℕ, _+_, _*_, _/_, _%_, _≤_}
 use native.Mathlib.Omega.{arith}
 use mathlib.Core.Path.{_≡_, sym, ap, _∙_}

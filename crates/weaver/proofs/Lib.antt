@@ -1,4 +1,4 @@
--- Laws that several proofs cite, and the claims. Assumes nothing.
+-- Laws that several proofs cite, and the claims.
 pub mod General
 pub mod Packed
 pub mod Judged

@@ -1,5 +1,5 @@
 -- Planes and fields packed: how long they are, that a packed line is the plane's own, and that each packed plane can be woven where its plane
--- can. Assumes nothing.
+-- can.
 use Prim.Native.Nat.{ℕ, _+_, _-_, _*_, _≤_, _<_}
 use mathlib.Core.Path.{_≡_, refl, sym, ap, _∙_}
 use mathlib.Core.Bool.{true, _&&_}

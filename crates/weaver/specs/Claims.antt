@@ -1,5 +1,5 @@
 -- What is claimed of the weaver over calls. proofs/Claims.antt proves each claim under its name in small letters. No claim supposes anything of a
--- history: calls that are refused may stand anywhere, and `taken` leaves them out. Assumes nothing.
+-- history: calls that are refused may stand anywhere, and `taken` leaves them out.
 use Prim.Native.Nat.{ℕ}
 use mathlib.Core.Path.{_≡_}
 use mathlib.Core.List.{List, [], _∷_}

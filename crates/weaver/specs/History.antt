@@ -1,5 +1,5 @@
 -- Histories of calls on an empty weaver (docs/RULES.md, "Fields and readback"). First what the calls leave, with the store lent back as it was left;
--- then the same from the fields alone: who waits, who is thrown away, who is paired. Lists of calls are newest first. Assumes nothing.
+-- then the same from the fields alone: who waits, who is thrown away, who is paired. Lists of calls are newest first.
 use Prim.Native.Nat.{ℕ}
 use mathlib.Core.Bool.{Bool, cond, _&&_}
 use mathlib.Core.List.{List, [], _∷_}

@@ -1,4 +1,4 @@
--- What inner functions of `weaver` require; no other contract cites it. Assumes nothing.
+-- What inner functions of `weaver` require; no other contract cites it.
 use Prim.Native.Nat.{ℕ, _≤_}
 use mathlib.Core.Path.{_≡_}
 use mathlib.Core.Bool.{true}

@@ -1,5 +1,5 @@
 -- The field that waits for its mate (docs/RULES.md, "Fields and readback", "Forms that must change"; the source is `Weaver` in weave.rs): what each
--- call gives, on every value that the struct can hold. Assumes nothing.
+-- call gives, on every value that the struct can hold.
 use Prim.Native.Nat.{ℕ, _+_, _*_}
 use mathlib.Core.Bool.{Bool, true, false, cond, not, _&&_}
 use mathlib.Core.List.{List, [], _∷_, _++_}

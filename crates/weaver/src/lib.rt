@@ -4,7 +4,7 @@
 // by value, the field that waits is packed in a lent store, the picture goes to lent outputs, and what
 // cannot be taken is refused by number.
 //
-// Fields in the order they come, paired into frames. Assumes nothing.
+// Fields in the order they come, paired into frames.
 ghost use mathlib.Core.Path.{_≡_};
 ghost use mathlib.Core.Bool.{cond, _&&_};
 ghost use mathlib.Core.List.{[], _∷_, _++_};
@@ -171,7 +171,7 @@ fn push_no(
     let whole = weave::whole_field(shape, luma, cb, cr);
     let held = kept_bytes(kept) <= store;
     let room = room_after(picture, shape, store, out_luma, out_cb, out_cr);
-    plane::refusal::lowest_of(true, good, halved, whole & held, room, true)
+    refusal::lowest_of(true, good, halved, whole & held, room, true)
 }
 
 // ---- packing

@@ -1,4 +1,3 @@
--- `answers::bytes` meets its contract. Assumes nothing.
 use borrow.Author.Needs.{needs}
 use native.Mathlib.Omega.{arith}
 use Rattle.answers.proofs.Parts.{cuts, leaves, misses, cuts-at, leaves-at, misses-at}

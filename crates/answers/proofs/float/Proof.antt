@@ -1,4 +1,3 @@
--- `answers::float` meets its contract. Assumes nothing.
 use borrow.Author.Needs.{needs}
 use Rattle.answers.proofs.float.Statement.{statement}
 use Rattle.answers.proofs.float.Tie as tie

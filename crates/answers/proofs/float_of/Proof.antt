@@ -1,4 +1,3 @@
--- `answers::float_of` meets its contract. Assumes nothing.
 use Rattle.answers.proofs.Floats.{above-is-nan, below-is-none}
 use lib.Ieee.{div, ofBits}
 use borrow.Author.Needs.{needs}

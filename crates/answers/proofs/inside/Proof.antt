@@ -1,4 +1,3 @@
--- `answers::inside` meets its contract. Assumes nothing.
 use borrow.Author.Needs.{needs}
 use Rattle.answers.proofs.Parts.{reads-inside, reads-outside}
 use Rattle.answers.proofs.inside.Statement.{statement}

@@ -1,4 +1,3 @@
--- `answers::same` meets its contract. Assumes nothing.
 use borrow.Author.Needs.{needs}
 use Rattle.answers.proofs.same.Statement.{statement}
 use Rattle.answers.proofs.same.Tie as tie

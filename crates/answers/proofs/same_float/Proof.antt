@@ -1,4 +1,3 @@
--- `answers::same_float` meets its contract. Assumes nothing.
 use borrow.Author.Needs.{needs}
 use mathlib.Core.Path.{sym, subst}
 use mathlib.Core.Bool.{Bool, not}

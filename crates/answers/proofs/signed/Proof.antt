@@ -1,4 +1,3 @@
--- `answers::signed` meets its contract. Assumes nothing.
 use borrow.Author.Needs.{needs}
 use Prim.Native.Nat.{ℕ, _/_, _%_, _<_, _^_}
 use mathlib.Core.Path.{sym, ap, _∙_}

@@ -1,4 +1,4 @@
--- `block::add_row` meets its contract. The loop keeps `Added` of the blocks passed. Assumes nothing.
+-- The loop keeps `Added` of the blocks passed.
 use Prim.Native.Nat.{_-_, _*_, _≤_}
 use mathlib.Core.Path.{_≡_, ap, sym, _∙_}
 use native.Mathlib.Omega.{arith}

@@ -1,4 +1,4 @@
--- `block::band` meets its contract. The loop keeps `Added` of the rows passed. Assumes nothing.
+-- The loop keeps `Added` of the rows passed.
 use Prim.Native.Nat.{ℕ, _-_, _≤_}
 use mathlib.Core.Path.{_≡_, refl, ap, _∙_}
 use native.Mathlib.Omega.{arith}

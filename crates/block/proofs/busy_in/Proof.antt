@@ -1,4 +1,4 @@
--- `block::busy_in` meets its contract. The loop keeps `Summed` of the blocks passed. Assumes nothing.
+-- The loop keeps `Summed` of the blocks passed.
 use Prim.Native.Nat.{ℕ, _-_, _*_, _≤_}
 use mathlib.Core.Path.{ap, _∙_}
 use native.Mathlib.Omega.{arith}

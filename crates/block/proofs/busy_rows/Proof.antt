@@ -1,4 +1,4 @@
--- `block::busy_rows` meets its contract. The loop keeps `Summed` of the bands passed. Assumes nothing.
+-- The loop keeps `Summed` of the bands passed.
 use Prim.Native.Nat.{ℕ, _-_, _≤_}
 use mathlib.Core.Path.{_≡_, ap, _∙_}
 use native.Mathlib.Omega.{arith}

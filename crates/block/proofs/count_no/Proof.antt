@@ -1,4 +1,3 @@
--- `block::count_no` meets its contract. Assumes nothing.
 use borrow.Author.Needs.{needs}
 use Rattle.laws.specs.Refusal.{lowest}
 use Rattle.block.proofs.count_no.Statement.{statement}

@@ -1,4 +1,4 @@
--- `block::differ_in` meets its contract. The loop keeps `Summed` of the columns passed. Assumes nothing.
+-- The loop keeps `Summed` of the columns passed.
 use Prim.Native.Nat.{_-_}
 use native.Mathlib.Omega.{arith}
 use lib.ListN.{length, getD}

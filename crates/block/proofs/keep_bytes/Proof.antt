@@ -1,4 +1,4 @@
--- `block::keep_bytes` meets its contract. The loop keeps `Filled` of the columns passed. Assumes nothing.
+-- The loop keeps `Filled` of the columns passed.
 use Prim.Native.Nat.{_-_}
 use mathlib.Core.Path.{refl}
 use native.Mathlib.Omega.{arith}

@@ -1,4 +1,3 @@
--- `block::keep_no` meets its contract. Assumes nothing.
 use borrow.Author.Needs.{needs}
 use Rattle.laws.specs.Refusal.{lowest}
 use Rattle.block.proofs.keep_no.Statement.{statement}

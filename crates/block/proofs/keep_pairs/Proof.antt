@@ -1,4 +1,4 @@
--- `block::keep_pairs` meets its contract. The loop keeps `Filled` of the columns passed. Assumes nothing.
+-- The loop keeps `Filled` of the columns passed.
 use Prim.Native.Nat.{_+_, _-_, _*_, _/_, _%_, _^_}
 use native.Mathlib.Omega.{arith}
 use lib.ListN.{length}

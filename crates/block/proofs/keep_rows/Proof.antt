@@ -1,4 +1,4 @@
--- `block::keep_rows` meets its contract. The loop keeps `Stacked` of the rows passed. Assumes nothing.
+-- The loop keeps `Stacked` of the rows passed.
 use Prim.Native.Nat.{_+_, _-_, _*_, _≤_}
 use mathlib.Core.Path.{_≡_, refl}
 use native.Mathlib.Omega.{arith}

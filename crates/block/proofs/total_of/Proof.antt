@@ -1,4 +1,3 @@
--- `block::total_of` meets its contract. Assumes nothing.
 use Prim.Native.Nat.{ℕ, _*_}
 use mathlib.Core.Path.{ap₂}
 use native.Mathlib.Nat.{mul-le-mul}

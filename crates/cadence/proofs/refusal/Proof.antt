@@ -1,4 +1,3 @@
--- `cadence::refusal` meets its contract. Assumes nothing.
 use borrow.Author.Needs.{needs}
 use borrow.Author.Tests.{lt-ltb, le-ltb}
 use Rattle.cadence.specs.Told.{refusalIn}

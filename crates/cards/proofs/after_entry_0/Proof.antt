@@ -1,4 +1,3 @@
--- `cards::after_entry_0` meets its contract. Assumes nothing.
 use borrow.Author.Needs.{needs}
 use mathlib.Core.Path.{_∙_, ap}
 use Rattle.field.specs.declared.Parity.the-variants.{Top}

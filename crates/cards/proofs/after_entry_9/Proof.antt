@@ -1,4 +1,3 @@
--- `cards::after_entry_9` meets its contract. Assumes nothing.
 use borrow.Author.Needs.{needs}
 use Rattle.cards.proofs.after_entry_9.Statement.{statement}
 use Rattle.cards.proofs.after_entry_9.Tie as tie

@@ -1,4 +1,3 @@
--- `cards::after_stills` meets its contract. Assumes nothing.
 use borrow.Author.Needs.{needs}
 use Prim.Native.Nat.{_-_, _≤_}
 use Rattle.cards.proofs.after_stills.Statement.{statement}

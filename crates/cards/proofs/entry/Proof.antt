@@ -1,4 +1,3 @@
--- `cards::entry` meets its contract. Assumes nothing.
 use borrow.Author.Needs.{needs}
 use mathlib.Core.Path.{_∙_, ap₂}
 use Rattle.field.specs.declared.Parity.the-variants.{Top}

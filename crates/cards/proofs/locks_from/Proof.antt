@@ -1,4 +1,3 @@
--- `cards::locks_from` meets its contract. Assumes nothing.
 use borrow.Author.Needs.{needs}
 use Prim.Native.Nat.{_-_, _≤_}
 use Rattle.cards.proofs.locks_from.Statement.{statement}

@@ -1,4 +1,3 @@
--- `cards::moving_of` meets its contract. Assumes nothing.
 use borrow.Author.Needs.{needs}
 use Prim.Native.Nat.{_-_, _≤_}
 use Rattle.cards.proofs.moving_of.Statement.{statement}

@@ -1,4 +1,4 @@
--- `colour::converted` meets its contract: under its steps' names the definition is the code's one expression. Assumes nothing.
+-- `colour::converted` meets its contract: under its steps' names the definition is the code's one expression.
 use Rattle.colour.specs.Colour.{lumaOf, chromaOf, uOf, vOf, kgOf, doubledOf, shareOf, convertedOf}
 use borrow.Author.Needs.{needs}
 use Rattle.colour.proofs.converted.Statement.{statement}

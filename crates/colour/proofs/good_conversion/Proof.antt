@@ -1,4 +1,3 @@
--- `colour::good_conversion` meets its contract. Assumes nothing.
 use Rattle.colour.specs.Colour.{goodConversion}
 use borrow.Author.Needs.{needs}
 use Rattle.colour.proofs.good_conversion.Statement.{statement}

@@ -1,4 +1,3 @@
--- `colour::good_samples` meets its contract. Assumes nothing.
 use Rattle.colour.specs.Colour.{goodSamples}
 use borrow.Author.Needs.{needs}
 use Rattle.colour.proofs.good_samples.Statement.{statement}

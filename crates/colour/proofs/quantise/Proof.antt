@@ -1,4 +1,4 @@
--- `colour::quantise` meets its contract: the cut of a byte needs no clamp before it. Assumes nothing.
+-- `colour::quantise` meets its contract: the cut of a byte needs no clamp before it.
 use mathlib.Core.Path.{sym, _∙_}
 use borrow.Author.Needs.{needs}
 use Rattle.float.proofs.Byte.{cut-of-clamp}

@@ -1,4 +1,4 @@
--- `colour::to_rgb` meets its contract: the code's one test is the definition's. Assumes nothing.
+-- `colour::to_rgb` meets its contract: the code's one test is the definition's.
 use mathlib.Core.Path.{refl, ap}
 use mathlib.Core.List.{[], _∷_}
 use Rattle.colour.specs.declared.Rgb.{Rgb}

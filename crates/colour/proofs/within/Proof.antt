@@ -1,4 +1,4 @@
--- `colour::within` meets its contract: its tests are the definition's. Assumes nothing.
+-- `colour::within` meets its contract: its tests are the definition's.
 use mathlib.Core.Path.{refl}
 use Rattle.colour.proofs.within.Statement.{statement}
 use Rattle.colour.proofs.within.Tie as tie

@@ -1,4 +1,3 @@
--- `comb::comb` meets its contract. Assumes nothing.
 use lib.ListN.{length}
 use denote.Ref.{now}
 use borrow.Author.Needs.{needs}

@@ -1,4 +1,3 @@
--- `comb::comb_no` meets its contract. Assumes nothing.
 use Rattle.laws.specs.Refusal.{lowest}
 use borrow.Author.Needs.{needs}
 use Rattle.comb.proofs.comb_no.Statement.{statement}

@@ -1,4 +1,3 @@
--- `comb::kind_of` meets its contract. Assumes nothing.
 use borrow.Author.Tests.{le-leb, lt-leb}
 use Rattle.comb.proofs.kind_of.Statement.{statement}
 use Rattle.comb.proofs.kind_of.Tie as tie

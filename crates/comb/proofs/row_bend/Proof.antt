@@ -1,4 +1,3 @@
--- `comb::row_bend` meets its contract. Assumes nothing.
 use borrow.Author.Needs.{needs}
 use Rattle.comb.proofs.row_bend.Statement.{statement}
 use Rattle.comb.proofs.row_bend.Tie as tie

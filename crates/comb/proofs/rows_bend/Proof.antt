@@ -1,4 +1,4 @@
--- `comb::rows_bend` meets its contract. The loop keeps `Summed` of the rows passed, and where the row above starts. Assumes nothing.
+-- The loop keeps `Summed` of the rows passed, and where the row above starts.
 use Prim.Native.Nat.{ℕ, _+_, _*_, _-_, _≤_}
 use mathlib.Core.Path.{_≡_, sym, ap}
 use native.Mathlib.Nat.{zero-mul, mul-le-mul}

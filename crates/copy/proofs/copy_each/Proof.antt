@@ -1,4 +1,4 @@
--- `copy::copy_each` meets its contract. The loop keeps `Filled` of the bytes passed. Assumes nothing.
+-- The loop keeps `Filled` of the bytes passed.
 use Prim.Native.Nat.{_-_}
 use mathlib.Core.Path.{refl, _∙_}
 use native.Mathlib.Omega.{arith}

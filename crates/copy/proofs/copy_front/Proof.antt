@@ -1,4 +1,4 @@
--- `copy::copy_front` meets its contract. The loop keeps `Copied`: the bytes passed are those of src, the rest is as it was. Assumes nothing.
+-- The loop keeps `Copied`: the bytes passed are those of src, the rest is as it was.
 use Prim.Native.Nat.{_+_, _-_}
 use mathlib.Core.Path.{_≡_, refl}
 use native.Mathlib.Omega.{arith}

@@ -1,4 +1,3 @@
--- `entry::cadences` meets its contract. Assumes nothing.
 use mathlib.Core.Path.{_≡_, sym}
 use lib.ListN.{length}
 use denote.Ref.{now}

@@ -1,4 +1,3 @@
--- `entry::entry_of` meets its contract. Assumes nothing.
 use borrow.Author.Needs.{needs}
 use Rattle.entry.specs.Entry.{entryOf}
 use Rattle.entry.proofs.entry_of.Statement.{statement}

@@ -1,4 +1,3 @@
--- `entry::lowest_of` meets its contract. Assumes nothing.
 use borrow.Author.Tests.{not-true, not-false}
 use Rattle.laws.specs.Refusal.{lowest}
 use Rattle.entry.proofs.lowest_of.Statement.{statement}

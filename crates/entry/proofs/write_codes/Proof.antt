@@ -1,4 +1,4 @@
--- `entry::write_codes` meets its contract. The loop keeps the field that led in the last of the entries passed, and their codes. Assumes nothing.
+-- The loop keeps the field that led in the last of the entries passed, and their codes.
 use Prim.Native.Nat.{ℕ, _-_, _<_, _≤_}
 use mathlib.Core.Path.{_≡_, refl, ap, _∙_}
 use native.Mathlib.Nat.{le-antisymm}

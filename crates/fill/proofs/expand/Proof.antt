@@ -1,4 +1,3 @@
--- `fill::expand` meets its contract. Assumes nothing.
 use borrow.Author.Needs.{needs}
 use denote.Ref.{now}
 use Rattle.fill.proofs.Expanded.{row-of}

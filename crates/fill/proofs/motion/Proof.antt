@@ -1,4 +1,3 @@
--- `fill::motion` meets its contract. Assumes nothing.
 use borrow.Author.Needs.{needs}
 use Rattle.scanline.proofs.Columns.{three-width}
 use Rattle.fill.proofs.motion.Statement.{statement}

@@ -1,4 +1,3 @@
--- `fill::own_line` meets its contract. Assumes nothing.
 use mathlib.Core.Path.{_∙_}
 use borrow.Author.Needs.{needs}
 use lib.IntN.{pos}

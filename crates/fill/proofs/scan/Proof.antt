@@ -1,4 +1,3 @@
--- `fill::scan` meets its contract. Assumes nothing.
 use mathlib.Core.Path.{_≡_}
 use Prim.Native.Nat.{_+_, _*_, _-_, _≤_}
 use native.Mathlib.Nat.{lt-of-le-of-lt, mul-le-mul}

@@ -1,4 +1,3 @@
--- `fill::three` meets its contract. Assumes nothing.
 use borrow.Author.Needs.{needs}
 use lib.IntN.{pos}
 use Rattle.fill.proofs.Expanded.{held-here}

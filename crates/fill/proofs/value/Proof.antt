@@ -1,4 +1,3 @@
--- `fill::value` meets its contract. Assumes nothing.
 use borrow.Author.Needs.{needs}
 use Rattle.fill.proofs.value.Statement.{statement}
 use Rattle.fill.proofs.value.Tie as tie

@@ -1,4 +1,3 @@
--- `filmdesk::chosen_number` meets its contract. Assumes nothing.
 use borrow.Author.Needs.{needs}
 use Rattle.filmdesk.proofs.chosen_number.Statement.{statement}
 use Rattle.filmdesk.proofs.chosen_number.Tie as tie

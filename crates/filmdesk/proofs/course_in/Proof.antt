@@ -1,4 +1,3 @@
--- `filmdesk::course_in` meets its contract. Assumes nothing.
 use mathlib.Core.Path.{_∙_}
 use denote.Ref.{now}
 use lib.Dec.{lit<}

@@ -1,4 +1,3 @@
--- `filmdesk::desk_detector_locked` meets its contract. Assumes nothing.
 use mathlib.Core.Path.{refl, ap, _∙_}
 use lib.Dec.{ltb}
 use borrow.Author.Needs.{needs}

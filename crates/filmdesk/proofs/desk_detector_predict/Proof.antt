@@ -1,4 +1,3 @@
--- `filmdesk::desk_detector_predict` meets its contract. Assumes nothing.
 use mathlib.Core.Path.{refl, ap, _∙_}
 use lib.ListN.{length}
 use denote.Ref.{now}

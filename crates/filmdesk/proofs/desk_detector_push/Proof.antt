@@ -1,5 +1,4 @@
 -- `filmdesk::desk_detector_push` meets its contract: codes, shape and state are tested here, and the rest is the detector's own answer.
--- Assumes nothing.
 use Prim.Native.Nat.{ℕ, _*_}
 use mathlib.Core.Path.{_≡_, refl, sym, ap, _∙_}
 use mathlib.Core.Bool.{Bool, _&&_}

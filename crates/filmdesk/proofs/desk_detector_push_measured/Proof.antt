@@ -1,4 +1,3 @@
--- `filmdesk::desk_detector_push_measured` meets its contract. Assumes nothing.
 use mathlib.Core.Path.{_≡_, refl, ap, _∙_}
 use mathlib.Core.Bool.{_&&_}
 use lib.Dec.{leb}

@@ -1,4 +1,3 @@
--- `filmdesk::desk_detector_reset` meets its contract. Assumes nothing.
 use mathlib.Core.Path.{refl, ap, _∙_}
 use denote.Ref.{now}
 use borrow.Author.Needs.{needs}

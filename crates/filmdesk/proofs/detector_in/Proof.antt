@@ -1,4 +1,3 @@
--- `filmdesk::detector_in` meets its contract. Assumes nothing.
 use mathlib.Core.Path.{_∙_}
 use borrow.Author.Needs.{needs}
 use Rattle.pulldown.specs.Lock.{lockWith}

@@ -1,4 +1,3 @@
--- `filmdesk::grid_of` meets its contract. Assumes nothing.
 use borrow.Author.Needs.{needs}
 use Rattle.filmdesk.proofs.grid_of.Statement.{statement}
 use Rattle.filmdesk.proofs.grid_of.Tie as tie

@@ -1,4 +1,3 @@
--- `filmdesk::last_in` meets its contract. Assumes nothing.
 use mathlib.Core.Path.{ap, _∙_}
 use denote.Ref.{now}
 use lib.Dec.{lit<}

@@ -1,4 +1,3 @@
--- `filmdesk::measured_named` meets its contract. Assumes nothing.
 use borrow.Author.Tests.{eq-eqb, ne-eqb}
 use Rattle.filmdesk.proofs.measured_named.Statement.{statement}
 use Rattle.filmdesk.proofs.measured_named.Tie as tie

@@ -1,4 +1,3 @@
--- `filmdesk::numbers_of` meets its contract. Assumes nothing.
 use mathlib.Core.List.{[], _∷_}
 use borrow.Author.Needs.{needs}
 use Rattle.filmdesk.proofs.numbers_of.Statement.{statement}

@@ -1,4 +1,3 @@
--- `filmdesk::parity_in` meets its contract. Assumes nothing.
 use borrow.Author.Tests.{eq-eqb, ne-eqb}
 use Rattle.filmdesk.proofs.parity_in.Statement.{statement}
 use Rattle.filmdesk.proofs.parity_in.Tie as tie

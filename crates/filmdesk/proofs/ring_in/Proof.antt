@@ -1,4 +1,4 @@
--- `filmdesk::ring_in` meets its contract. The loop keeps `Filled` of the places passed. Assumes nothing.
+-- The loop keeps `Filled` of the places passed.
 use Prim.Native.Nat.{_+_, _-_}
 use mathlib.Core.Path.{refl}
 use native.Mathlib.Omega.{arith}

@@ -1,4 +1,4 @@
--- `filmdesk::write_ring` meets its contract. The loop keeps `Filled` of the places passed. Assumes nothing.
+-- The loop keeps `Filled` of the places passed.
 use Prim.Native.Nat.{ℕ, _+_, _-_, _≤_, _<_}
 use mathlib.Core.List.{[], _∷_, _++_}
 use denote.Ref.{now}

@@ -1,4 +1,4 @@
--- `filter::across` meets its contract: the two columns and rows are those of the definition. Assumes nothing.
+-- `filter::across` meets its contract: the two columns and rows are those of the definition.
 use native.Mathlib.Omega.{arith}
 use Rattle.filter.specs.Filter.{acrossOf}
 use Rattle.filter.proofs.Offsets.{unbiased-more, unbiased-less, across-above, across-below}

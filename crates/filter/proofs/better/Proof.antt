@@ -1,4 +1,3 @@
--- `filter::better` meets its contract. Assumes nothing.
 use Rattle.filter.specs.Filter.{betterOf}
 use Rattle.filter.proofs.better.Statement.{statement}
 use Rattle.filter.proofs.better.Tie as tie

@@ -1,4 +1,3 @@
--- `filter::beyond` meets its contract. Assumes nothing.
 use Rattle.filter.specs.Filter.{beyondOf}
 use borrow.Author.Needs.{needs}
 use Rattle.filter.proofs.beyond.Statement.{statement}

@@ -1,4 +1,3 @@
--- `filter::bwdif` meets its contract. Assumes nothing.
 use mathlib.Core.Path.{_≡_}
 use lib.IntN.{ℤ}
 use lib.Ieee.{Float}

@@ -1,4 +1,3 @@
--- `filter::cubic` meets its contract. Assumes nothing.
 use mathlib.Core.Path.{refl}
 use Rattle.filter.specs.Filter.{cubicOf}
 use Rattle.filter.proofs.cubic.Statement.{statement}

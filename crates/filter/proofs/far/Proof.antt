@@ -1,4 +1,4 @@
--- `filter::far` meets its contract: the two columns and rows are those of the definition. Assumes nothing.
+-- `filter::far` meets its contract: the two columns and rows are those of the definition.
 use native.Mathlib.Omega.{arith}
 use Rattle.filter.specs.Filter.{farOf}
 use Rattle.filter.proofs.Offsets.{unbiased-more, unbiased-less, far-above, far-below}

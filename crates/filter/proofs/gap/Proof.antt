@@ -1,4 +1,3 @@
--- `filter::gap` meets its contract. Assumes nothing.
 use Rattle.filter.specs.Filter.{gapOf}
 use borrow.Author.Needs.{needs}
 use Rattle.filter.proofs.gap.Statement.{statement}

@@ -1,4 +1,3 @@
--- `filter::hold` meets its contract. Assumes nothing.
 use Rattle.filter.specs.Filter.{heldOf}
 use borrow.Author.Needs.{needs}
 use Rattle.filter.proofs.hold.Statement.{statement}

@@ -1,4 +1,4 @@
--- `filter::in_motion` meets its contract: the rows above and below are one up and one down. Assumes nothing.
+-- `filter::in_motion` meets its contract: the rows above and below are one up and one down.
 use native.Mathlib.Omega.{arith}
 use Rattle.filter.proofs.Motion.{joined}
 use Rattle.filter.proofs.Offsets.{unbiased-more, unbiased-less}

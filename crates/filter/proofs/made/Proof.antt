@@ -1,4 +1,3 @@
--- `filter::made` meets its contract. Assumes nothing.
 use Rattle.filter.specs.Filter.{madeOf}
 use borrow.Author.Needs.{needs}
 use Rattle.filter.proofs.made.Statement.{statement}

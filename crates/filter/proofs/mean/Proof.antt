@@ -1,4 +1,3 @@
--- `filter::mean` meets its contract. Assumes nothing.
 use mathlib.Core.Path.{refl}
 use Rattle.filter.specs.Filter.{meanOf}
 use Rattle.filter.proofs.mean.Statement.{statement}

@@ -1,4 +1,4 @@
--- `filter::near` meets its contract: the two columns and rows are those of the definition. Assumes nothing.
+-- `filter::near` meets its contract: the two columns and rows are those of the definition.
 use native.Mathlib.Omega.{arith}
 use Rattle.filter.specs.Filter.{nearOf}
 use Rattle.filter.proofs.Offsets.{unbiased-more, unbiased-less, near-above, near-below}

@@ -1,4 +1,4 @@
--- `filter::sample_at` meets its contract, case by case. Assumes nothing.
+-- `filter::sample_at` meets its contract, case by case.
 use mathlib.Core.Path.{_≡_, sym, _∙_}
 use mathlib.Core.Bool.{true, false}
 use Rattle.filter.specs.Rows.{weaves}

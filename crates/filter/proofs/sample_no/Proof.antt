@@ -1,4 +1,4 @@
--- `filter::sample_no` meets its contract: each test is its definition. Assumes nothing.
+-- `filter::sample_no` meets its contract: each test is its definition.
 use mathlib.Core.Path.{_≡_, ap, _∙_}
 use mathlib.Core.Bool.{_&&_}
 use mathlib.Core.List.{[], _∷_}

@@ -1,4 +1,3 @@
--- `filter::score` meets its contract. Assumes nothing.
 use Rattle.filter.specs.Filter.{scoreOf}
 use borrow.Author.Needs.{needs}
 use Rattle.filter.proofs.score.Statement.{statement}

@@ -1,4 +1,3 @@
--- `filter::signed` meets its contract. Assumes nothing.
 use mathlib.Core.Path.{_≡_, sym, ap}
 use native.Mathlib.Omega.{arith}
 use Rattle.filter.specs.Held.{step}

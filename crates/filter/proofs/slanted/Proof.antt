@@ -1,4 +1,3 @@
--- `filter::slanted` meets its contract. Assumes nothing.
 use native.Mathlib.Omega.{arith}
 use Prim.Native.Nat.{_^_}
 use lib.Dec.{le→leb}

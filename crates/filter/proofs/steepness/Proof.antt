@@ -1,4 +1,3 @@
--- `filter::steepness` meets its contract. Assumes nothing.
 use mathlib.Core.Path.{sym}
 use native.Mathlib.Omega.{arith}
 use Rattle.filter.proofs.Offsets.{step-below, step-from}

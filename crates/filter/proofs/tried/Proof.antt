@@ -1,4 +1,3 @@
--- `filter::tried` meets its contract. Assumes nothing.
 use borrow.Author.Needs.{needs}
 use Rattle.filter.proofs.tried.Statement.{statement}
 use Rattle.filter.proofs.tried.Tie as tie

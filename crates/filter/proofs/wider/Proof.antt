@@ -1,4 +1,3 @@
--- `filter::wider` meets its contract. Assumes nothing.
 use Rattle.filter.specs.Filter.{widerOf}
 use borrow.Author.Needs.{needs}
 use Rattle.filter.proofs.wider.Statement.{statement}

@@ -1,4 +1,3 @@
--- `filter::yadif` meets its contract. Assumes nothing.
 use Rattle.filter.specs.Filter.{yadifOf}
 use borrow.Author.Needs.{needs}
 use Rattle.filter.proofs.yadif.Statement.{statement}

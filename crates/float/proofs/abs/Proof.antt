@@ -1,4 +1,4 @@
--- `float::abs` meets its contract: a value above 0 is its own, and 0 less any other is exact, because the argument is a value of `f32`. Assumes nothing.
+-- `float::abs` meets its contract: a value above 0 is its own, and 0 less any other is exact, because the argument is a value of `f32`.
 use mathlib.Core.Path.{_≡_, refl, sym, subst}
 use mathlib.Core.Bool.{true, false, true≢false}
 use Prim.Native.Nat.{zero, suc, _*_, _<_, _≤_}

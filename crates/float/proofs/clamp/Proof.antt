@@ -1,4 +1,4 @@
--- `float::clamp` meets its contract: its tests are the definition's. Assumes nothing.
+-- `float::clamp` meets its contract: its tests are the definition's.
 use Rattle.float.specs.Float.{clampOf}
 use Rattle.float.proofs.clamp.Statement.{statement}
 use Rattle.float.proofs.clamp.Tie as tie

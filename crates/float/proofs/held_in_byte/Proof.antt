@@ -1,4 +1,4 @@
--- `float::held_in_byte` meets its contract, by the laws of `proofs/Byte.antt`. Assumes nothing.
+-- `float::held_in_byte` meets its contract, by the laws of `proofs/Byte.antt`.
 use mathlib.Core.Path.{sym, _∙_, subst}
 use mathlib.Core.Logic.{⊎-elim}
 use native.Mathlib.Omega.{arith}

@@ -1,4 +1,4 @@
--- `float::max` meets its contract: the code's `a != a` is the definition's `isNan a`. Assumes nothing.
+-- `float::max` meets its contract: the code's `a != a` is the definition's `isNan a`.
 use Rattle.float.specs.Float.{maxOf}
 use Rattle.float.proofs.Order.{nan-test}
 use Rattle.float.proofs.max.Statement.{statement}

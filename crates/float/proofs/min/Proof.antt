@@ -1,4 +1,4 @@
--- `float::min` meets its contract: the code's `a != a` is the definition's `isNan a`. Assumes nothing.
+-- `float::min` meets its contract: the code's `a != a` is the definition's `isNan a`.
 use Rattle.float.specs.Float.{minOf}
 use Rattle.float.proofs.Order.{nan-test}
 use Rattle.float.proofs.min.Statement.{statement}

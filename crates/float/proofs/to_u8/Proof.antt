@@ -1,4 +1,4 @@
--- `float::to_u8` meets its contract: the whole number that it casts is the cut of the argument. Assumes nothing.
+-- `float::to_u8` meets its contract: the whole number that it casts is the cut of the argument.
 use mathlib.Core.Path.{_∙_}
 use borrow.Author.Needs.{needs}
 use Rattle.float.proofs.Byte.{cast-back}

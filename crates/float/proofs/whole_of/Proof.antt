@@ -1,4 +1,4 @@
--- `float::whole_of` meets its contract, by the laws of `proofs/Byte.antt`. Assumes nothing.
+-- `float::whole_of` meets its contract, by the laws of `proofs/Byte.antt`.
 use Rattle.float.proofs.Byte.{whole-above, whole-not-above}
 use Rattle.float.proofs.whole_of.Statement.{statement}
 use Rattle.float.proofs.whole_of.Tie as tie

@@ -1,4 +1,3 @@
--- `listing::add_cadence` meets its contract. Assumes nothing.
 use borrow.Author.Needs.{needs}
 use native.Mathlib.Omega.{arith}
 use Rattle.listing.proofs.add_cadence.Statement.{statement}

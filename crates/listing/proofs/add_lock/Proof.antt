@@ -1,4 +1,3 @@
--- `listing::add_lock` meets its contract. Assumes nothing.
 use native.Mathlib.Omega.{arith}
 use borrow.Author.Needs.{needs}
 use Rattle.listing.proofs.add_lock.Statement.{statement}

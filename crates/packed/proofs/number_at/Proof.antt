@@ -1,4 +1,3 @@
--- `packed::number_at` meets its contract. Assumes nothing.
 use Prim.Native.Nat.{_+_, _*_}
 use mathlib.Core.Path.{_∙_}
 use denote.Ref.{now}

@@ -1,4 +1,3 @@
--- `packed::two_at` meets its contract. Assumes nothing.
 use borrow.Author.Needs.{needs}
 use Rattle.packed.proofs.two_at.Statement.{statement}
 use Rattle.packed.proofs.two_at.Tie as tie

@@ -1,4 +1,4 @@
--- `packed::write_number` meets its contract. The loop keeps `Filled` of the bytes passed, and what is left of the number. Assumes nothing.
+-- The loop keeps `Filled` of the bytes passed, and what is left of the number.
 use Prim.Native.Nat.{ℕ, _-_, _/_, _%_, _^_}
 use mathlib.Core.Path.{_≡_, ap, _∙_}
 use native.Mathlib.Omega.{arith}

@@ -1,4 +1,4 @@
--- `packed::write_numbers` meets its contract. The loop keeps `Stacked` of the numbers passed. Assumes nothing.
+-- The loop keeps `Stacked` of the numbers passed.
 use Prim.Native.Nat.{ℕ, _+_, _-_, _*_, _/_, _≤_, _<_}
 use mathlib.Core.Path.{_≡_, refl}
 use mathlib.Core.Bool.{true, false}

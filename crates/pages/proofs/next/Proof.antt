@@ -1,4 +1,3 @@
--- `pages::next` meets its contract. Assumes nothing.
 use Rattle.pages.specs.Pages.{askOf}
 use borrow.Author.Tests.{eq-eqb, ne-eqb}
 use borrow.Author.Needs.{needs}

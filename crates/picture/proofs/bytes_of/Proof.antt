@@ -1,4 +1,3 @@
--- `picture::bytes_of` meets its contract. Assumes nothing.
 use Prim.Native.Nat.{_*_, _≤_}
 use native.Mathlib.Nat.{lt-of-le-of-lt, mul-le-mul}
 use native.Mathlib.Omega.{arith}

@@ -1,4 +1,3 @@
--- `picture::chroma_fits` meets its contract. Assumes nothing.
 use mathlib.Core.Bool.{_&&_}
 use borrow.Author.Needs.{needs}
 use Rattle.picture.proofs.chroma_fits.Statement.{statement}

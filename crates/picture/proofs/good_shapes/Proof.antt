@@ -1,4 +1,3 @@
--- `picture::good_shapes` meets its contract. Assumes nothing.
 use mathlib.Core.Bool.{_&&_}
 use borrow.Author.Needs.{needs}
 use Rattle.picture.proofs.good_shapes.Statement.{statement}

@@ -1,4 +1,3 @@
--- `picture::quality_for` meets its contract. Assumes nothing.
 use borrow.Author.Needs.{needs}
 use Rattle.picture.proofs.quality_for.Statement.{statement}
 use Rattle.picture.proofs.quality_for.Tie as tie

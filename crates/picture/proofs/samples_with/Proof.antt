@@ -1,4 +1,3 @@
--- `picture::samples_with` meets its contract. Assumes nothing.
 use mathlib.Core.Path.{sym, subst, _∙_}
 use borrow.Author.Needs.{needs}
 use lib.ListN.{length}

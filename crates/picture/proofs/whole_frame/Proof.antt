@@ -1,4 +1,3 @@
--- `picture::whole_frame` meets its contract. Assumes nothing.
 use mathlib.Core.Bool.{_&&_}
 use borrow.Author.Needs.{needs}
 use lib.Dec.{leb}

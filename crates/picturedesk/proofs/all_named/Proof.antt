@@ -1,4 +1,3 @@
--- `picturedesk::all_named` meets its contract. Assumes nothing.
 use borrow.Author.Needs.{needs}
 use Rattle.picturedesk.proofs.all_named.Statement.{statement}
 use Rattle.picturedesk.proofs.all_named.Tie as tie

@@ -1,4 +1,3 @@
--- `picturedesk::chosen_named` meets its contract. Assumes nothing.
 use borrow.Author.Needs.{needs}
 use borrow.Author.Tests.{le-leb, lt-leb}
 use Rattle.picturedesk.proofs.chosen_named.Statement.{statement}

@@ -1,4 +1,4 @@
--- `picturedesk::desk_picture` meets its contract: codes are tested here, and the rest is `picture::picture_of`'s own answer. Assumes nothing.
+-- `picturedesk::desk_picture` meets its contract: codes are tested here, and the rest is `picture::picture_of`'s own answer.
 use borrow.Author.Needs.{needs}
 use borrow.Author.Tests.{not-true, not-false}
 use Prim.Native.Nat.{ℕ}

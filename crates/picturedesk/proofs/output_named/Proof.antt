@@ -1,4 +1,3 @@
--- `picturedesk::output_named` meets its contract. Assumes nothing.
 use borrow.Author.Needs.{needs}
 use Rattle.picturedesk.proofs.output_named.Statement.{statement}
 use Rattle.picturedesk.proofs.output_named.Tie as tie

@@ -1,4 +1,3 @@
--- `picturedesk::planes_named` meets its contract. Assumes nothing.
 use borrow.Author.Needs.{needs}
 use Rattle.picturedesk.proofs.planes_named.Statement.{statement}
 use Rattle.picturedesk.proofs.planes_named.Tie as tie

@@ -1,4 +1,3 @@
--- `picturedesk::source_named` meets its contract. Assumes nothing.
 use borrow.Author.Tests.{eq-eqb, ne-eqb}
 use Rattle.picturedesk.proofs.source_named.Statement.{statement}
 use Rattle.picturedesk.proofs.source_named.Tie as tie

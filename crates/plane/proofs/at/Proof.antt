@@ -1,4 +1,3 @@
--- `plane::at` meets its contract. Assumes nothing.
 use mathlib.Core.Path.{_≡_, refl, sym, ap, _∙_}
 use mathlib.Core.Bool.{Bool, true, _&&_}
 use lib.Dec.{lit<}

@@ -1,4 +1,4 @@
--- `plane::biased` meets its contract: within reach the sum is a small natural number. Assumes nothing.
+-- `plane::biased` meets its contract: within reach the sum is a small natural number.
 use mathlib.Core.Path.{_≡_, refl, sym, ap, _∙_, subst}
 use mathlib.Core.Bool.{true}
 use native.Mathlib.Nat.{lt-of-le-of-lt}

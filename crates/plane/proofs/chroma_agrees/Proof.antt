@@ -1,4 +1,3 @@
--- `plane::chroma_agrees` meets its contract. Assumes nothing.
 use borrow.Author.Needs.{needs}
 use Rattle.plane.proofs.chroma_agrees.Statement.{statement}
 use Rattle.plane.proofs.chroma_agrees.Tie as tie

@@ -1,4 +1,3 @@
--- `plane::code_at` meets its contract. Assumes nothing.
 use Rattle.plane.specs.Plane.{codeOf}
 use borrow.Author.Needs.{needs}
 use Rattle.plane.proofs.code_at.Statement.{statement}

@@ -1,4 +1,3 @@
--- `plane::code_inside` meets its contract. Assumes nothing.
 use mathlib.Core.Path.{sym, subst}
 use Prim.Native.Nat.{ℕ, _+_, _≤_}
 use lib.ListN.{length}

@@ -1,4 +1,3 @@
--- `plane::hold` meets its contract. Assumes nothing.
 use mathlib.Core.Path.{sym}
 use native.Mathlib.Omega.{arith}
 use Rattle.plane.proofs.Coordinates.{held-below, held-from}

@@ -1,4 +1,3 @@
--- `plane::plane_bytes` meets its contract. Assumes nothing.
 use borrow.Author.Needs.{needs}
 use Rattle.plane.proofs.plane_bytes.Statement.{statement}
 use Rattle.plane.proofs.plane_bytes.Tie as tie

@@ -1,4 +1,3 @@
--- `plane::read_no` meets its contract. Assumes nothing.
 use Rattle.laws.specs.Refusal.{lowest}
 use borrow.Author.Needs.{needs}
 use Rattle.plane.proofs.read_no.Statement.{statement}
@@ -10,8 +9,14 @@ good-shape-requires c κs = search needs
 plane-bytes-requires : tie.Need-plane-bytes-requires
 plane-bytes-requires c κs = search needs
 
-lowest-of-requires : tie.Need-lowest-of-requires
-lowest-of-requires c κs = search needs
+test-requires : tie.Need-test-requires
+test-requires c κs = search needs
+
+test-requires-2 : tie.Need-test-requires-2
+test-requires-2 c κs = search needs
+
+test-requires-3 : tie.Need-test-requires-3
+test-requires-3 c κs = search needs
 
 returns : tie.Need-returns
 unfolding lowest
@@ -19,4 +24,11 @@ returns c = cc
 
 pub read-no-spec : {M : Type 1} → statement M
 read-no-spec =
-    tie.close (tie.spec good-shape-requires plane-bytes-requires lowest-of-requires returns)
+    tie.close
+    (tie.spec
+    good-shape-requires
+    plane-bytes-requires
+    test-requires
+    test-requires-2
+    test-requires-3
+    returns)

@@ -1,4 +1,3 @@
--- `plane::row_bytes` meets its contract. Assumes nothing.
 use native.Mathlib.Omega.{arith}
 use borrow.Author.Needs.{needs}
 use Rattle.plane.proofs.row_bytes.Statement.{statement}

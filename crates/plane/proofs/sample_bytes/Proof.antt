@@ -1,4 +1,3 @@
--- `plane::sample_bytes` meets its contract. Assumes nothing.
 use native.Mathlib.Omega.{arith}
 use borrow.Author.Tests.{le-leb, lt-leb}
 use Rattle.plane.proofs.sample_bytes.Statement.{statement}

@@ -1,4 +1,3 @@
--- `plane::start_of` meets its contract. Assumes nothing.
 use borrow.Author.Needs.{needs}
 use Rattle.plane.proofs.start_of.Statement.{statement}
 use Rattle.plane.proofs.start_of.Tie as tie

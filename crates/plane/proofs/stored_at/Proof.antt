@@ -1,4 +1,3 @@
--- `plane::stored_at` meets its contract. Assumes nothing.
 use borrow.Author.Tests.{le-leb, lt-leb}
 use borrow.Author.Needs.{needs}
 use Rattle.plane.proofs.stored_at.Statement.{statement}

@@ -1,4 +1,3 @@
--- `plane::times` meets its contract. Assumes nothing.
 use native.Mathlib.Nat.{lt-of-le-of-lt, le-of-lt, mul-le-mul, mul-le-mul-left, mul-comm, le-of-eq, le-trans}
 use lib.Dec.{lit<}
 use mathlib.Core.Path.{refl}

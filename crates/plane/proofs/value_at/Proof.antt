@@ -1,4 +1,3 @@
--- `plane::value_at` meets its contract. Assumes nothing.
 use Prim.Native.Nat.{_^_, _≤_}
 use native.Mathlib.Omega.{arith}
 use Rattle.plane.proofs.Full.{full-least, full-most}

@@ -1,4 +1,3 @@
--- `plane::within` meets its contract. Assumes nothing.
 use Rattle.plane.specs.Plane.{goodShape}
 use borrow.Author.Needs.{needs}
 use Rattle.plane.proofs.within.Statement.{statement}

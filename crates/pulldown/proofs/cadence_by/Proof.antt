@@ -1,4 +1,3 @@
--- `pulldown::cadence_by` meets its contract. Assumes nothing.
 use borrow.Author.Tests.{lt-ltb, le-ltb}
 use borrow.Author.Needs.{needs}
 use Rattle.pulldown.proofs.cadence_by.Statement.{statement}

@@ -1,4 +1,4 @@
--- `pulldown::cadences_of` meets its contract. The loop keeps the lock of the codes passed, and their cadences. Assumes nothing.
+-- The loop keeps the lock of the codes passed, and their cadences.
 use Prim.Native.Nat.{_-_, _<_}
 use mathlib.Core.Path.{refl, ap, _∙_}
 use native.Mathlib.Omega.{arith}

@@ -1,4 +1,3 @@
--- `pulldown::classify_counts` meets its contract. Assumes nothing.
 use Rattle.pulldown.specs.Symbols.{symbolOf}
 use borrow.Author.Needs.{needs}
 use Rattle.pulldown.proofs.classify_counts.Statement.{statement}

@@ -1,4 +1,3 @@
--- `pulldown::contradicts` meets its contract. Assumes nothing.
 use borrow.Author.Tests.{lt-ltb, le-ltb}
 use Rattle.pulldown.specs.Runs.{contradicts}
 use borrow.Author.Needs.{needs}

@@ -1,4 +1,3 @@
--- `pulldown::enter` meets its contract. Assumes nothing.
 use denote.Ref.{now}
 use borrow.Author.Needs.{needs}
 use Rattle.pulldown.proofs.Step.{entered, few-held}

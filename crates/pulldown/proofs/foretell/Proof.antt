@@ -1,4 +1,3 @@
--- `pulldown::foretell` meets its contract. Assumes nothing.
 use borrow.Author.Tests.{lt-ltb, le-ltb, le-leb, lt-leb}
 use Rattle.pulldown.specs.Runs.{foretold}
 use borrow.Author.Needs.{needs}

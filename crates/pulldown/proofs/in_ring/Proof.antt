@@ -1,4 +1,3 @@
--- `pulldown::in_ring` meets its contract. Assumes nothing.
 use Prim.Native.Nat.{ℕ, _%_, _<_}
 use native.Mathlib.Omega.{arith}
 use mathlib.Core.Path.{_≡_, refl}

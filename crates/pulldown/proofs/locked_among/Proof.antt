@@ -1,4 +1,3 @@
--- `pulldown::locked_among` meets its contract. Assumes nothing.
 use mathlib.Core.Path.{sym}
 use denote.Ref.{now}
 use borrow.Author.Needs.{needs}

@@ -1,4 +1,3 @@
--- `pulldown::locked_by` meets its contract. Assumes nothing.
 use borrow.Author.Tests.{lt-ltb, le-ltb}
 use Rattle.pulldown.specs.Lock.{lockedBy}
 use borrow.Author.Needs.{needs}

@@ -1,4 +1,3 @@
--- `pulldown::one_if` meets its contract. Assumes nothing.
 use mathlib.Core.Path.{sym, _∙_}
 use borrow.Author.Needs.{needs}
 use Rattle.pulldown.proofs.one_if.Statement.{statement}

@@ -1,4 +1,3 @@
--- `pulldown::phase_left` meets its contract. Assumes nothing.
 use borrow.Author.Tests.{lt-ltb, le-ltb}
 use Rattle.pulldown.proofs.phase_left.Statement.{statement}
 use Rattle.pulldown.proofs.phase_left.Tie as tie

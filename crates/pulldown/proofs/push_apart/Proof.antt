@@ -1,4 +1,3 @@
--- `pulldown::push_apart` meets its contract. Assumes nothing.
 use borrow.Author.Tests.{lt-ltb, le-ltb}
 use Rattle.laws.specs.Refusal.{lowest}
 use borrow.Author.Needs.{needs}

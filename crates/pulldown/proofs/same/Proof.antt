@@ -1,4 +1,3 @@
--- `pulldown::same` meets its contract. Assumes nothing.
 use borrow.Author.Needs.{needs}
 use Rattle.pulldown.proofs.same.Statement.{statement}
 use Rattle.pulldown.proofs.same.Tie as tie

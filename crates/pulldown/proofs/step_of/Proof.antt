@@ -1,4 +1,3 @@
--- `pulldown::step_of` meets its contract. Assumes nothing.
 use native.Mathlib.Omega.{arith}
 use borrow.Author.Needs.{needs}
 use Rattle.pulldown.proofs.step_of.Statement.{statement}

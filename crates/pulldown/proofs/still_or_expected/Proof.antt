@@ -1,4 +1,3 @@
--- `pulldown::still_or_expected` meets its contract. Assumes nothing.
 use Rattle.pulldown.specs.Runs.{stillOrExpected}
 use borrow.Author.Needs.{needs}
 use Rattle.pulldown.proofs.still_or_expected.Statement.{statement}

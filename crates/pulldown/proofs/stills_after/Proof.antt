@@ -1,4 +1,3 @@
--- `pulldown::stills_after` meets its contract. Assumes nothing.
 use mathlib.Core.Path.{sym, _∙_}
 use borrow.Author.Needs.{needs}
 use Rattle.pulldown.proofs.stills_after.Statement.{statement}

@@ -1,4 +1,3 @@
--- `pulldown::symbol_of` meets its contract. Assumes nothing.
 use mathlib.Core.Path.{_≡_, sym, ap}
 use Prim.Native.Nat.{ℕ, min}
 use mathlib.Core.List.{[], _∷_}

@@ -1,4 +1,3 @@
--- `pulldown::take_seen` meets its contract. Assumes nothing.
 use denote.Ref.{now}
 use mathlib.Core.Path.{_∙_}
 use borrow.Author.Needs.{needs}

@@ -1,4 +1,3 @@
--- `pulldown::take_symbol` meets its contract. Assumes nothing.
 use borrow.Author.Tests.{lt-ltb, le-ltb}
 use borrow.Author.Needs.{needs}
 use Rattle.pulldown.proofs.take_symbol.Statement.{statement}

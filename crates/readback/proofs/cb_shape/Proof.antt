@@ -1,4 +1,3 @@
--- `readback::cb_shape` meets its contract. Assumes nothing.
 use borrow.Author.Needs.{needs}
 use Rattle.readback.proofs.cb_shape.Statement.{statement}
 use Rattle.readback.proofs.cb_shape.Tie as tie

@@ -1,4 +1,3 @@
--- `readback::chroma_layout` meets its contract. Assumes nothing.
 use mathlib.Core.Path.{sym, _∙_}
 use borrow.Author.Needs.{needs}
 use Rattle.readback.proofs.chroma_layout.Statement.{statement}

@@ -1,4 +1,3 @@
--- `readback::code_at` meets its contract. Assumes nothing.
 use Prim.Native.Nat.{_+_, _*_, _/_, _^_}
 use native.Mathlib.Nat.{div-le-self}
 use native.Mathlib.Omega.{arith}

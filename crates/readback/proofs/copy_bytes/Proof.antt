@@ -1,4 +1,3 @@
--- `readback::copy_bytes` meets its contract. Assumes nothing.
 use mathlib.Core.Path.{_∙_}
 use denote.Ref.{now}
 use borrow.Author.Needs.{needs}

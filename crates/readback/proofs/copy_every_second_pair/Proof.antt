@@ -1,4 +1,4 @@
--- `readback::copy_every_second_pair` meets its contract. The loop keeps `Stacked` of the columns passed. Assumes nothing.
+-- The loop keeps `Stacked` of the columns passed.
 use Prim.Native.Nat.{_+_, _-_, _*_, _/_, _%_}
 use mathlib.Core.Path.{refl}
 use mathlib.Core.List.{[], _∷_}

@@ -1,4 +1,3 @@
--- `readback::copy_row` meets its contract. Assumes nothing.
 use borrow.Author.Needs.{needs}
 use Rattle.readback.proofs.copy_row.Statement.{statement}
 use Rattle.readback.proofs.copy_row.Tie as tie

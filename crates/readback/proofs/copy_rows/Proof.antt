@@ -1,4 +1,4 @@
--- `readback::copy_rows` meets its contract. The loop keeps `Stacked` of the rows passed. Assumes nothing.
+-- The loop keeps `Stacked` of the rows passed.
 use Prim.Native.Nat.{ℕ, _+_, _-_, _*_, _≤_}
 use mathlib.Core.Path.{_≡_, refl, sym, ap, subst, _∙_}
 use mathlib.Core.List.{List}

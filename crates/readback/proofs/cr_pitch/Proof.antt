@@ -1,4 +1,3 @@
--- `readback::cr_pitch` meets its contract. Assumes nothing.
 use mathlib.Core.Path.{sym, _∙_}
 use borrow.Author.Needs.{needs}
 use Rattle.readback.proofs.cr_pitch.Statement.{statement}

@@ -1,4 +1,3 @@
--- `readback::cr_shape` meets its contract. Assumes nothing.
 use borrow.Author.Needs.{needs}
 use Rattle.readback.proofs.cr_shape.Statement.{statement}
 use Rattle.readback.proofs.cr_shape.Tie as tie

@@ -1,4 +1,3 @@
--- `readback::frame_of_readback` meets its contract. Assumes nothing.
 use mathlib.Core.Path.{refl}
 use lib.ListN.{length}
 use denote.Ref.{now}

@@ -1,4 +1,3 @@
--- `readback::good_shapes` meets its contract. Assumes nothing.
 use mathlib.Core.Path.{ap, _∙_}
 use mathlib.Core.Bool.{_&&_}
 use Rattle.plane.specs.Plane.{goodShape}

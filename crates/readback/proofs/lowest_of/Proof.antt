@@ -1,4 +1,3 @@
--- `readback::lowest_of` meets its contract. Assumes nothing.
 use borrow.Author.Tests.{not-true, not-false}
 use Rattle.laws.specs.Refusal.{lowest}
 use Rattle.readback.proofs.lowest_of.Statement.{statement}

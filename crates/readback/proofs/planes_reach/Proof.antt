@@ -1,4 +1,3 @@
--- `readback::planes_reach` meets its contract. Assumes nothing.
 use mathlib.Core.Path.{ap, _∙_}
 use mathlib.Core.Bool.{_&&_}
 use lib.Dec.{leb}

@@ -1,4 +1,3 @@
--- `readback::readback_no` meets its contract. Assumes nothing.
 use borrow.Author.Needs.{needs}
 use Rattle.readback.proofs.readback_no.Statement.{statement}
 use Rattle.readback.proofs.readback_no.Tie as tie

@@ -1,4 +1,3 @@
--- `reel::picture_count_no` meets its contract. Assumes nothing.
 use borrow.Author.Needs.{needs}
 use Rattle.laws.specs.Refusal.{lowest}
 use Rattle.reel.proofs.picture_count_no.Statement.{statement}

@@ -1,4 +1,3 @@
--- `reel::pictured_in` meets its contract. Assumes nothing.
 use borrow.Author.Needs.{needs}
 use Rattle.reel.proofs.pictured_in.Statement.{statement}
 use Rattle.reel.proofs.pictured_in.Tie as tie

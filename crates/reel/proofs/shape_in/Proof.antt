@@ -1,4 +1,3 @@
--- `reel::shape_in` meets its contract. Assumes nothing.
 use borrow.Author.Needs.{needs}
 use Rattle.reel.specs.Reel.{shapeIn}
 use Rattle.reel.proofs.shape_in.Statement.{statement}

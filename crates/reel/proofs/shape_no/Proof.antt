@@ -1,4 +1,3 @@
--- `reel::shape_no` meets its contract. Assumes nothing.
 use borrow.Author.Needs.{needs}
 use Rattle.laws.specs.Refusal.{lowest}
 use Rattle.reel.proofs.shape_no.Statement.{statement}

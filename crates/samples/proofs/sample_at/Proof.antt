@@ -1,5 +1,5 @@
 -- `sample_at` meets its contract: the struct that `new` gives is held in a local, where its type has no name for its lifetime, and handed
--- to `at`. Assumes nothing.
+-- to `at`.
 use mathlib.Core.Path.{_≡_, refl, subst}
 use Prim.Native.Nat.{ℕ}
 use mathlib.Core.List.{List, [], _∷_}

@@ -1,4 +1,3 @@
--- `scanline::better` meets its contract. Assumes nothing.
 use Rattle.scanline.specs.Lines.{betterIn}
 use Rattle.scanline.proofs.better.Statement.{statement}
 use Rattle.scanline.proofs.better.Tie as tie

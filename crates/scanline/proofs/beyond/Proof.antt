@@ -1,4 +1,3 @@
--- `scanline::beyond` meets its contract. Assumes nothing.
 use borrow.Author.Needs.{needs}
 use Rattle.filter.specs.Filter.{beyondOf}
 use Rattle.scanline.proofs.beyond.Statement.{statement}

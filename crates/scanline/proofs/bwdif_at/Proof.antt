@@ -1,4 +1,3 @@
--- `scanline::bwdif_at` meets its contract. Assumes nothing.
 use borrow.Author.Needs.{needs}
 use Rattle.filter.specs.Filter.{cubicOf}
 use Rattle.scanline.specs.Lines.{bwdifIn}

@@ -1,4 +1,3 @@
--- `scanline::edge_far` meets its contract. Assumes nothing.
 use borrow.Author.Needs.{needs}
 use Rattle.scanline.proofs.Slants.{edge-is}
 use Rattle.scanline.proofs.edge_far.Statement.{statement}

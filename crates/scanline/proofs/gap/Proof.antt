@@ -1,4 +1,3 @@
--- `scanline::gap` meets its contract. Assumes nothing.
 use borrow.Author.Needs.{needs}
 use Rattle.filter.specs.Filter.{gapOf}
 use Rattle.scanline.proofs.gap.Statement.{statement}

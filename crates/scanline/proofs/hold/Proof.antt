@@ -1,4 +1,3 @@
--- `scanline::hold` meets its contract. Assumes nothing.
 use borrow.Author.Needs.{needs}
 use Rattle.filter.specs.Filter.{heldOf}
 use Rattle.scanline.proofs.hold.Statement.{statement}

@@ -1,4 +1,3 @@
--- `scanline::in_motion` meets its contract. Assumes nothing.
 use mathlib.Core.Path.{refl}
 use mathlib.Core.List.{[]}
 use lib.IntN.{pos}

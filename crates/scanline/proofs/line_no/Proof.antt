@@ -1,4 +1,3 @@
--- `scanline::line_no` meets its contract. Assumes nothing.
 use Rattle.laws.specs.Refusal.{lowest}
 use Rattle.scanline.proofs.line_no.Statement.{statement}
 use Rattle.scanline.proofs.line_no.Tie as tie

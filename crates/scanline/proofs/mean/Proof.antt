@@ -1,4 +1,3 @@
--- `scanline::mean` meets its contract. Assumes nothing.
 use mathlib.Core.Path.{refl}
 use Rattle.filter.specs.Filter.{meanOf}
 use Rattle.scanline.proofs.mean.Statement.{statement}

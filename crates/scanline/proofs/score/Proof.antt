@@ -1,4 +1,3 @@
--- `scanline::score` meets its contract. Assumes nothing.
 use borrow.Author.Needs.{needs}
 use Rattle.scanline.specs.Lines.{scoreIn}
 use Rattle.scanline.proofs.score.Statement.{statement}

@@ -1,4 +1,3 @@
--- `scanline::sum` meets its contract. Assumes nothing.
 use mathlib.Core.Path.{refl}
 use borrow.Author.Needs.{needs}
 use Rattle.scanline.specs.Lines.{sumIn}

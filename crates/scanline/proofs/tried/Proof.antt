@@ -1,4 +1,3 @@
--- `scanline::tried` meets its contract. Assumes nothing.
 use mathlib.Core.Path.{_∙_}
 use borrow.Author.Needs.{needs}
 use lib.Ieee.{binary32, add, mul}

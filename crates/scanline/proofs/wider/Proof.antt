@@ -1,4 +1,3 @@
--- `scanline::wider` meets its contract. Assumes nothing.
 use Rattle.filter.specs.Filter.{widerOf}
 use borrow.Author.Needs.{needs}
 use Rattle.scanline.proofs.wider.Statement.{statement}

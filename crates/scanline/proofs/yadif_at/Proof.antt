@@ -1,4 +1,3 @@
--- `scanline::yadif_at` meets its contract. Assumes nothing.
 use borrow.Author.Needs.{needs}
 use Rattle.scanline.specs.Lines.{yadifIn}
 use Rattle.scanline.proofs.yadif_at.Statement.{statement}

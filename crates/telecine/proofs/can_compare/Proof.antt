@@ -1,4 +1,3 @@
--- `telecine::can_compare` meets its contract. Assumes nothing.
 use borrow.Author.Needs.{needs}
 use Rattle.telecine.proofs.can_compare.Statement.{statement}
 use Rattle.telecine.proofs.can_compare.Tie as tie

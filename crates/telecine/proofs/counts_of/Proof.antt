@@ -1,4 +1,3 @@
--- `telecine::counts_of` meets its contract. Assumes nothing.
 use Rattle.telecine.proofs.Calls.{counted-value, never-refused}
 use borrow.Author.Needs.{needs}
 use Rattle.telecine.proofs.counts_of.Statement.{statement}

@@ -1,4 +1,3 @@
--- `telecine::kept_bytes` meets its contract. Assumes nothing.
 use borrow.Author.Needs.{needs}
 use Rattle.telecine.proofs.kept_bytes.Statement.{statement}
 use Rattle.telecine.proofs.kept_bytes.Tie as tie

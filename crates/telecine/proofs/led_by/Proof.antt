@@ -1,4 +1,3 @@
--- `telecine::led_by` meets its contract. Assumes nothing.
 use borrow.Author.Needs.{needs}
 use Rattle.telecine.proofs.led_by.Statement.{statement}
 use Rattle.telecine.proofs.led_by.Tie as tie

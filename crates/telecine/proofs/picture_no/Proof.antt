@@ -1,4 +1,3 @@
--- `telecine::picture_no` meets its contract. Assumes nothing.
 use Rattle.laws.specs.Refusal.{lowest}
 use borrow.Author.Needs.{needs}
 use Rattle.telecine.proofs.picture_no.Statement.{statement}

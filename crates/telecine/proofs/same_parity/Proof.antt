@@ -1,4 +1,3 @@
--- `telecine::same_parity` meets its contract. Assumes nothing.
 use borrow.Author.Needs.{needs}
 use Rattle.telecine.proofs.same_parity.Statement.{statement}
 use Rattle.telecine.proofs.same_parity.Tie as tie

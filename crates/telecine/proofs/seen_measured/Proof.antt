@@ -1,4 +1,3 @@
--- `telecine::seen_measured` meets its contract. Assumes nothing.
 use borrow.Author.Needs.{needs}
 use Rattle.telecine.proofs.seen_measured.Statement.{statement}
 use Rattle.telecine.proofs.seen_measured.Tie as tie

@@ -1,4 +1,3 @@
--- `telecine::seen_picture` meets its contract. Assumes nothing.
 use mathlib.Core.Path.{sym, _∙_}
 use Rattle.telecine.specs.Detector.{symbolAgainst}
 use borrow.Author.Needs.{needs}

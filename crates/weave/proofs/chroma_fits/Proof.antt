@@ -1,4 +1,3 @@
--- `weave::chroma_fits` meets its contract. Assumes nothing.
 use borrow.Author.Needs.{needs}
 use Rattle.weave.proofs.chroma_fits.Statement.{statement}
 use Rattle.weave.proofs.chroma_fits.Tie as tie

@@ -1,4 +1,3 @@
--- `weave::good_field` meets its contract. Assumes nothing.
 use borrow.Author.Needs.{needs}
 use Rattle.weave.proofs.good_field.Statement.{statement}
 use Rattle.weave.proofs.good_field.Tie as tie

@@ -1,4 +1,3 @@
--- `weave::good_lines` meets its contract. Assumes nothing.
 use borrow.Author.Needs.{needs}
 use Rattle.weave.proofs.good_lines.Statement.{statement}
 use Rattle.weave.proofs.good_lines.Tie as tie

@@ -1,4 +1,3 @@
--- `weave::half_size` meets its contract. Assumes nothing.
 use mathlib.Core.Path.{ap₂, _∙_}
 use Rattle.plane.specs.Plane.{chromaAgrees}
 use borrow.Author.Needs.{needs}

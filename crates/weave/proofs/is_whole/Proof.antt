@@ -1,4 +1,3 @@
--- `weave::is_whole` meets its contract. Assumes nothing.
 use borrow.Author.Needs.{needs}
 use Rattle.weave.proofs.is_whole.Statement.{statement}
 use Rattle.weave.proofs.is_whole.Tie as tie

@@ -1,4 +1,3 @@
--- `weave::line_no` meets its contract. Assumes nothing.
 use Rattle.laws.specs.Refusal.{lowest}
 use borrow.Author.Needs.{needs}
 use Rattle.weave.proofs.line_no.Statement.{statement}

@@ -1,4 +1,3 @@
--- `weave::lines_agree` meets its contract. Assumes nothing.
 use mathlib.Core.Path.{ap₂, _∙_}
 use Rattle.plane.specs.Plane.{agree}
 use borrow.Author.Needs.{needs}

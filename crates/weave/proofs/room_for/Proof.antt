@@ -1,4 +1,3 @@
--- `weave::room_for` meets its contract. Assumes nothing.
 use borrow.Author.Needs.{needs}
 use Rattle.weave.proofs.room_for.Statement.{statement}
 use Rattle.weave.proofs.room_for.Tie as tie

@@ -1,4 +1,3 @@
--- `weave::whole_field` meets its contract. Assumes nothing.
 use borrow.Author.Needs.{needs}
 use Rattle.weave.proofs.whole_field.Statement.{statement}
 use Rattle.weave.proofs.whole_field.Tie as tie

@@ -1,4 +1,3 @@
--- `weave::woven` meets its contract. Assumes nothing.
 use borrow.Author.Needs.{needs}
 use Rattle.weave.proofs.woven.Statement.{statement}
 use Rattle.weave.proofs.woven.Tie as tie

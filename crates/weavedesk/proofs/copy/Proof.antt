@@ -1,4 +1,4 @@
--- `weavedesk::copy` meets its contract. The loop keeps `Filled` of the bytes passed. Assumes nothing.
+-- The loop keeps `Filled` of the bytes passed.
 use Prim.Native.Nat.{ℕ, _-_, _≤_}
 use mathlib.Core.Path.{_≡_, refl, ap₂, _∙_}
 use mathlib.Core.List.{List, _++_}

@@ -1,4 +1,3 @@
--- `weavedesk::desk_line_number` meets its contract. Assumes nothing.
 use borrow.Author.Needs.{needs}
 use Rattle.weavedesk.proofs.desk_line_number.Statement.{statement}
 use Rattle.weavedesk.proofs.desk_line_number.Tie as tie

@@ -1,4 +1,4 @@
--- `weavedesk::desk_weave` meets its contract: the answer is `weave::weave`'s own, of numbers narrowed for it. Assumes nothing.
+-- `weavedesk::desk_weave` meets its contract: the answer is `weave::weave`'s own, of numbers narrowed for it.
 use borrow.Author.Needs.{needs}
 use mathlib.Core.Path.{_≡_, sym, _∙_}
 use lib.ListN.{length}

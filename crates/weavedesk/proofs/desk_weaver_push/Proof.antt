@@ -1,5 +1,4 @@
 -- `weavedesk::desk_weaver_push` meets its contract: codes, shapes and the state's length are tested here, and the rest is the weaver's own answer.
--- Assumes nothing.
 use mathlib.Core.Path.{_≡_, sym, ap, _∙_}
 use mathlib.Core.Bool.{_&&_}
 use lib.Dec.{leb}

@@ -1,4 +1,3 @@
--- `weavedesk::desk_woven` meets its contract. Assumes nothing.
 use borrow.Author.Needs.{needs}
 use mathlib.Core.Path.{ap, _∙_}
 use Rattle.weave.specs.Weave.{wovenFormat}

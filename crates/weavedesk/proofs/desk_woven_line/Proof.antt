@@ -1,4 +1,3 @@
--- `weavedesk::desk_woven_line` meets its contract. Assumes nothing.
 use borrow.Author.Needs.{needs}
 use denote.Ref.{now}
 use Rattle.weavedesk.proofs.Lines.{line-refused, line-too-long, line-copied}

@@ -1,4 +1,3 @@
--- `weavedesk::field_cut` meets its contract. Assumes nothing.
 use borrow.Author.Needs.{needs}
 use Rattle.weavedesk.proofs.field_cut.Statement.{statement}
 use Rattle.weavedesk.proofs.field_cut.Tie as tie

@@ -1,4 +1,3 @@
--- `weavedesk::format_named` meets its contract. Assumes nothing.
 use borrow.Author.Needs.{needs}
 use Rattle.weavedesk.proofs.format_named.Statement.{statement}
 use Rattle.weavedesk.proofs.format_named.Tie as tie

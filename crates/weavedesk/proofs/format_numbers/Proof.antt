@@ -1,4 +1,3 @@
--- `weavedesk::format_numbers` meets its contract. Assumes nothing.
 use borrow.Author.Needs.{needs}
 use Rattle.weavedesk.proofs.format_numbers.Statement.{statement}
 use Rattle.weavedesk.proofs.format_numbers.Tie as tie

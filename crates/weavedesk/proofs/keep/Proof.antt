@@ -1,4 +1,3 @@
--- `weavedesk::keep` meets its contract. Assumes nothing.
 use borrow.Author.Needs.{needs}
 use denote.Ref.{now}
 use Rattle.weavedesk.proofs.Kept.{numbers-kept}

@@ -1,4 +1,4 @@
--- `weavedesk::line_number` meets its contract: a line is outside by the height as given, and the other numbers are those of line 0. Assumes nothing.
+-- `weavedesk::line_number` meets its contract: a line is outside by the height as given, and the other numbers are those of line 0.
 use mathlib.Core.Path.{refl, _∙_}
 use borrow.Author.Needs.{needs}
 use borrow.Author.Tests.{le-ltb}

@@ -1,4 +1,3 @@
--- `weavedesk::lines_cut` meets its contract. Assumes nothing.
 use borrow.Author.Needs.{needs}
 use Rattle.weavedesk.proofs.lines_cut.Statement.{statement}
 use Rattle.weavedesk.proofs.lines_cut.Tie as tie

@@ -1,4 +1,3 @@
--- `weavedesk::numbers_of` meets its contract. Assumes nothing.
 use mathlib.Core.List.{[], _∷_}
 use borrow.Author.Needs.{needs}
 use Rattle.weavedesk.proofs.numbers_of.Statement.{statement}

@@ -1,4 +1,3 @@
--- `weavedesk::parity_in` meets its contract. Assumes nothing.
 use borrow.Author.Tests.{eq-eqb, ne-eqb}
 use Rattle.weavedesk.proofs.parity_in.Statement.{statement}
 use Rattle.weavedesk.proofs.parity_in.Tie as tie

@@ -1,4 +1,3 @@
--- `weavedesk::readback_cut` meets its contract. Assumes nothing.
 use borrow.Author.Needs.{needs}
 use Rattle.weavedesk.proofs.readback_cut.Statement.{statement}
 use Rattle.weavedesk.proofs.readback_cut.Tie as tie

@@ -1,4 +1,3 @@
--- `weavedesk::time_in` meets its contract. Assumes nothing.
 use Prim.Native.Nat.{ℕ, _%_, _<_, _^_}
 use native.Mathlib.Nat.{mod-lt}
 use lib.Dec.{lit<}

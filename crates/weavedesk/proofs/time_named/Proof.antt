@@ -1,4 +1,3 @@
--- `weavedesk::time_named` meets its contract. Assumes nothing.
 use mir.ValLaws.{toZ-ofZ}
 use borrow.Author.Tests.{eq-eqb, ne-eqb}
 use Rattle.weavedesk.proofs.time_named.Statement.{statement}

@@ -1,4 +1,3 @@
--- `weavedesk::time_size` meets its contract. Assumes nothing.
 use borrow.Author.Needs.{needs}
 use mir.Syntax.{w64}
 use mir.Val.{SFits}

@@ -1,4 +1,3 @@
--- `weavedesk::weaver_in` meets its contract. Assumes nothing.
 use Prim.Native.Nat.{ℕ, _%_}
 use mathlib.Core.Path.{ap, _∙_}
 use mathlib.Core.Bool.{not}

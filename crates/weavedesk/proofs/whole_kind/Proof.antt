@@ -1,4 +1,3 @@
--- `weavedesk::whole_kind` meets its contract. Assumes nothing.
 use mathlib.Core.Path.{sym}
 use mathlib.Core.Bool.{true, false}
 use Rattle.weavedesk.proofs.Times.{test-read, below-kind, above-kind}

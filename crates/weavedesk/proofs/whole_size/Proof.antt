@@ -1,4 +1,3 @@
--- `weavedesk::whole_size` meets its contract. Assumes nothing.
 use mathlib.Core.Path.{ap}
 use lib.IntN.{natAbs}
 use Rattle.weavedesk.proofs.Times.{raised-fits, size-fits, size-read, plain-read, castable, size-small}

@@ -1,4 +1,3 @@
--- `weaver::chroma_bytes` meets its contract. Assumes nothing.
 use borrow.Author.Needs.{needs}
 use Rattle.weaver.proofs.chroma_bytes.Statement.{statement}
 use Rattle.weaver.proofs.chroma_bytes.Tie as tie

@@ -1,4 +1,3 @@
--- `weaver::fits_kept` meets its contract. Assumes nothing.
 use borrow.Author.Needs.{needs}
 use Rattle.weaver.proofs.fits_kept.Statement.{statement}
 use Rattle.weaver.proofs.fits_kept.Tie as tie

@@ -1,4 +1,3 @@
--- `weaver::is_opposite` meets its contract. Assumes nothing.
 use borrow.Author.Needs.{needs}
 use Rattle.weaver.proofs.is_opposite.Statement.{statement}
 use Rattle.weaver.proofs.is_opposite.Tie as tie

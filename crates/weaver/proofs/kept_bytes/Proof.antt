@@ -1,4 +1,3 @@
--- `weaver::kept_bytes` meets its contract. Assumes nothing.
 use borrow.Author.Needs.{needs}
 use Rattle.weaver.proofs.kept_bytes.Statement.{statement}
 use Rattle.weaver.proofs.kept_bytes.Tie as tie

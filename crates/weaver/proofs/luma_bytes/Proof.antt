@@ -1,4 +1,3 @@
--- `weaver::luma_bytes` meets its contract. Assumes nothing.
 use Rattle.weaver.proofs.General.{product-most}
 use Prim.Native.Nat.{ℕ, _*_}
 use mathlib.Core.Path.{ap}

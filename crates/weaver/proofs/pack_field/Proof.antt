@@ -1,4 +1,3 @@
--- `weaver::pack_field` meets its contract. Assumes nothing.
 use Prim.Native.Nat.{_+_, _≤_}
 use mathlib.Core.Path.{sym, _∙_}
 use native.Mathlib.Omega.{arith}

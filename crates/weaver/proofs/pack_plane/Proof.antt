@@ -1,4 +1,4 @@
--- `weaver::pack_plane` meets its contract. The loop keeps `Stacked` of the rows passed. Assumes nothing.
+-- The loop keeps `Stacked` of the rows passed.
 use Prim.Native.Nat.{_+_, _-_, _*_, _≤_}
 use mathlib.Core.Path.{refl, _∙_}
 use native.Mathlib.Omega.{arith}

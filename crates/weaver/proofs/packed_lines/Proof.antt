@@ -1,4 +1,3 @@
--- `weaver::packed_lines` meets its contract. Assumes nothing.
 use borrow.Author.Needs.{needs}
 use Rattle.weaver.proofs.packed_lines.Statement.{statement}
 use Rattle.weaver.proofs.packed_lines.Tie as tie

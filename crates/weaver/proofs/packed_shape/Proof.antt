@@ -1,4 +1,3 @@
--- `weaver::packed_shape` meets its contract. Assumes nothing.
 use borrow.Author.Needs.{needs}
 use Rattle.weaver.proofs.packed_shape.Statement.{statement}
 use Rattle.weaver.proofs.packed_shape.Tie as tie

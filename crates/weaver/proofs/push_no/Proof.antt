@@ -1,4 +1,3 @@
--- `weaver::push_no` meets its contract. Assumes nothing.
 use Rattle.laws.specs.Refusal.{lowest}
 use borrow.Author.Needs.{needs}
 use Rattle.weaver.proofs.push_no.Statement.{statement}

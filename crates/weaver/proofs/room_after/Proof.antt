@@ -1,4 +1,3 @@
--- `weaver::room_after` meets its contract. Assumes nothing.
 use borrow.Author.Needs.{needs}
 use Rattle.weaver.proofs.room_after.Statement.{statement}
 use Rattle.weaver.proofs.room_after.Tie as tie

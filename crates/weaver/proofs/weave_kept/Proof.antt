@@ -1,4 +1,3 @@
--- `weaver::weave_kept` meets its contract. Assumes nothing.
 use Prim.Native.Nat.{_+_, _-_}
 use mathlib.Core.Path.{_≡_, ap, _∙_}
 use lib.ListN.{take, drop}

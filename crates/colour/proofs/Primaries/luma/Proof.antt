@@ -1,4 +1,4 @@
--- `colour::Primaries::luma` meets its contract: the code's literals are the definition's bits. Assumes nothing.
+-- `colour::Primaries::luma` meets its contract: the code's literals are the definition's bits.
 use Rattle.colour.specs.Colour.{lumaWeights}
 use borrow.Author.Needs.{needs}
 use Rattle.colour.proofs.Primaries.luma.Statement.{statement}

@@ -1,4 +1,3 @@
--- `desk::colours::desk_to_rgb` meets its contract. Assumes nothing.
 use mathlib.Core.Path.{_≡_, refl, sym, ap, _∙_}
 use Rattle.laws.proofs.Refusal.{done-equal, written-done, refusal-keeps}
 use Rattle.colour.specs.declared.Rgb.{Rgb}

@@ -1,4 +1,3 @@
--- `desk::colours::primaries_named` meets its contract. Assumes nothing.
 use borrow.Author.Tests.{eq-eqb, ne-eqb}
 use Rattle.desk.proofs.colours.primaries_named.Statement.{statement}
 use Rattle.desk.proofs.colours.primaries_named.Tie as tie

@@ -1,4 +1,4 @@
--- `desk::combs::desk_comb` meets its contract: numbers are cut to their places, and the rest is `comb::comb`'s own answer. Assumes nothing.
+-- `desk::combs::desk_comb` meets its contract: numbers are cut to their places, and the rest is `comb::comb`'s own answer.
 use Prim.Native.Nat.{ℕ}
 use mathlib.Core.Path.{refl, _∙_}
 use lib.ListN.{length}

@@ -1,5 +1,4 @@
 -- `desk::combs::desk_comb_rgba` meets its contract: numbers are cut to their places, and the rest is `comb::comb_rgba`'s own answer.
--- Assumes nothing.
 use Prim.Native.Nat.{ℕ}
 use mathlib.Core.Path.{refl, _∙_}
 use lib.ListN.{length}

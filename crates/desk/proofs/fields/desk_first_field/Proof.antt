@@ -1,4 +1,4 @@
--- `desk::fields::desk_first_field` meets its contract: the branch decides the one test, and the value is that of the calls. Assumes nothing.
+-- `desk::fields::desk_first_field` meets its contract: the branch decides the one test, and the value is that of the calls.
 use borrow.Author.Needs.{needs}
 use mathlib.Core.Path.{refl}
 use Rattle.laws.specs.Refusal.{lowest}

@@ -1,4 +1,4 @@
--- `desk::fields::structure_named` meets its contract: each branch decides one test of `structureNamed`. Assumes nothing.
+-- `desk::fields::structure_named` meets its contract: each branch decides one test of `structureNamed`.
 use borrow.Author.Tests.{eq-eqb, ne-eqb}
 use Rattle.desk.proofs.fields.structure_named.Statement.{statement}
 use Rattle.desk.proofs.fields.structure_named.Tie as tie

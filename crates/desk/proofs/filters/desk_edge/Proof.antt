@@ -1,4 +1,4 @@
--- `desk::filters::desk_edge` meets its contract: the layout's code is tested here, and the rest is `filter::edge`'s own answer. Assumes nothing.
+-- `desk::filters::desk_edge` meets its contract: the layout's code is tested here, and the rest is `filter::edge`'s own answer.
 use borrow.Author.Needs.{needs}
 use borrow.Author.Tests.{le-leb, lt-leb}
 use mathlib.Core.Path.{_≡_, refl, sym, ap, subst, _∙_}

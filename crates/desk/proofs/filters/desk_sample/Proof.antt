@@ -1,4 +1,4 @@
--- `desk::filters::desk_sample` meets its contract: codes are tested here, and the rest is `filter::sample`'s own answer. Assumes nothing.
+-- `desk::filters::desk_sample` meets its contract: codes are tested here, and the rest is `filter::sample`'s own answer.
 use borrow.Author.Needs.{needs}
 use borrow.Author.Tests.{not-true, not-false}
 use mathlib.Core.Path.{_≡_, refl, _∙_}

@@ -1,4 +1,3 @@
--- `desk::filters::quality_named` meets its contract. Assumes nothing.
 use borrow.Author.Tests.{eq-eqb, ne-eqb}
 use Rattle.desk.proofs.filters.quality_named.Statement.{statement}
 use Rattle.desk.proofs.filters.quality_named.Tie as tie

@@ -1,5 +1,5 @@
 -- `desk::planes::code_no` meets its contract: the coordinates are judged by the sizes as given, and what is judged by the cut shape is the same of
--- the shape as given. Assumes nothing.
+-- the shape as given.
 use Prim.Native.Nat.{ℕ}
 use mathlib.Core.Path.{_≡_, refl, ap, _∙_}
 use mathlib.Core.Bool.{Bool, true, _&&_}

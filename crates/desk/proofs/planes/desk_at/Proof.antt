@@ -1,4 +1,4 @@
--- `desk::planes::desk_at` meets its contract: the layout's code is tested here, and the rest is `plane::at`'s own answer. Assumes nothing.
+-- `desk::planes::desk_at` meets its contract: the layout's code is tested here, and the rest is `plane::at`'s own answer.
 use borrow.Author.Needs.{needs}
 use borrow.Author.Tests.{le-leb, lt-leb}
 use mathlib.Core.Path.{_≡_, refl, _∙_}

@@ -1,5 +1,5 @@
 -- `desk::planes::desk_code` meets its contract: where its number is 0 both coordinates are inside a plane within the bounds, so that they fit their
--- places and the cut shape is the shape as given. Assumes nothing.
+-- places and the cut shape is the shape as given.
 use Prim.Native.Nat.{ℕ, _≤_, _<_}
 use mathlib.Core.Path.{_≡_, refl, sym, ap, subst, _∙_}
 use mathlib.Core.Bool.{Bool, true, _&&_}

@@ -1,4 +1,3 @@
--- `desk::planes::is_inside` meets its contract. Assumes nothing.
 use Prim.Native.Nat.{ℕ, _<_, zero-le}
 use mathlib.Core.Path.{_≡_, refl, sym, ap, _∙_}
 use mathlib.Core.Bool.{Bool, true, false, _&&_, true≢false}

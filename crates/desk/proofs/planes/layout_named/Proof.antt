@@ -1,4 +1,3 @@
--- `desk::planes::layout_named` meets its contract. Assumes nothing.
 use borrow.Author.Tests.{eq-eqb, ne-eqb}
 use Rattle.desk.proofs.planes.layout_named.Statement.{statement}
 use Rattle.desk.proofs.planes.layout_named.Tie as tie

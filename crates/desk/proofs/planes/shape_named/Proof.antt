@@ -1,4 +1,3 @@
--- `desk::planes::shape_named` meets its contract. Assumes nothing.
 use borrow.Author.Needs.{needs}
 use Rattle.desk.proofs.planes.shape_named.Statement.{statement}
 use Rattle.desk.proofs.planes.shape_named.Tie as tie

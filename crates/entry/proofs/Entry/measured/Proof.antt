@@ -1,4 +1,3 @@
--- `Entry::measured` meets its contract. Assumes nothing.
 use borrow.Author.Tests.{ne-eqb}
 use Rattle.entry.proofs.Entry.measured.Statement.{statement}
 use Rattle.entry.proofs.Entry.measured.Tie as tie

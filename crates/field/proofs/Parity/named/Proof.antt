@@ -1,4 +1,3 @@
--- `field::Parity::named` meets its contract. Assumes nothing.
 use borrow.Author.Tests.{eq-eqb, ne-eqb}
 use Rattle.field.proofs.Parity.named.Statement.{statement}
 use Rattle.field.proofs.Parity.named.Tie as tie

@@ -1,4 +1,3 @@
--- `filter::Rows::of` meets its contract. Assumes nothing.
 use borrow.Author.Needs.{needs}
 use Rattle.filter.proofs.Rows.of.Statement.{statement}
 use Rattle.filter.proofs.Rows.of.Tie as tie

@@ -1,4 +1,3 @@
--- `listing::Lister::came` meets its contract. Assumes nothing.
 use borrow.Author.Needs.{needs}
 use Rattle.listing.proofs.Lister.came.Statement.{statement}
 use Rattle.listing.proofs.Lister.came.Tie as tie

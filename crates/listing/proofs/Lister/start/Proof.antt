@@ -1,4 +1,3 @@
--- `listing::Lister::start` meets its contract. Assumes nothing.
 use borrow.Author.Needs.{needs}
 use Rattle.listing.proofs.Lister.start.Statement.{statement}
 use Rattle.listing.proofs.Lister.start.Tie as tie

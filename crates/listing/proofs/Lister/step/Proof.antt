@@ -1,4 +1,3 @@
--- `listing::Lister::step` meets its contract. Assumes nothing.
 use mathlib.Core.Path.{refl, sym, _∙_}
 use Rattle.pages.proofs.Parts.{unit-room}
 use Rattle.listing.proofs.Stepping.{read-steps, asks, steps}

@@ -1,4 +1,3 @@
--- `listing::Lister::unit` meets its contract. Assumes nothing.
 use borrow.Author.Needs.{needs}
 use Rattle.listing.proofs.Stepping.{unit-steps}
 use Rattle.listing.proofs.Lister.unit.Statement.{statement}

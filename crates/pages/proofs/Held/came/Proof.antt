@@ -1,4 +1,3 @@
--- `pages::Held::came` meets its contract. Assumes nothing.
 use borrow.Author.Needs.{needs}
 use Rattle.pages.proofs.Held.came.Statement.{statement}
 use Rattle.pages.proofs.Held.came.Tie as tie

@@ -1,4 +1,3 @@
--- `pages::Held::count` meets its contract. Assumes nothing.
 use lib.ListN.{length-drop, length-take}
 use borrow.Author.Needs.{needs}
 use Rattle.pages.proofs.Held.count.Statement.{statement}

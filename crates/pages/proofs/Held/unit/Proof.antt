@@ -1,4 +1,3 @@
--- `pages::Held::unit` meets its contract. Assumes nothing.
 use Prim.Native.Nat.{ℕ, _+_, _-_, min}
 use native.Mathlib.Omega.{arith}
 use mathlib.Core.Path.{_≡_, sym, ap, _∙_}

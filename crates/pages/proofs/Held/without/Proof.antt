@@ -1,4 +1,3 @@
--- `pages::Held::without` meets its contract. Assumes nothing.
 use borrow.Author.Needs.{needs}
 use Rattle.pages.proofs.Held.without.Statement.{statement}
 use Rattle.pages.proofs.Held.without.Tie as tie

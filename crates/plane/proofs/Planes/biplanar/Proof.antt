@@ -1,4 +1,3 @@
--- `plane::Planes::biplanar` meets its contract. Assumes nothing.
 use borrow.Author.Needs.{needs}
 use Rattle.plane.proofs.Planes.biplanar.Statement.{statement}
 use Rattle.plane.proofs.Planes.biplanar.Tie as tie

@@ -1,4 +1,3 @@
--- `plane::Planes::planar` meets its contract. Assumes nothing.
 use borrow.Author.Needs.{needs}
 use Rattle.plane.proofs.Planes.planar.Statement.{statement}
 use Rattle.plane.proofs.Planes.planar.Tie as tie

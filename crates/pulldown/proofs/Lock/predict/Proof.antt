@@ -1,4 +1,3 @@
--- `pulldown::Lock::predict` meets its contract. Assumes nothing.
 use borrow.Author.Tests.{le-leb, lt-leb}
 use Rattle.laws.specs.Refusal.{lowest}
 use borrow.Author.Needs.{needs}

@@ -1,4 +1,3 @@
--- `reel::Reel::end` meets its contract. Assumes nothing.
 use borrow.Author.Needs.{needs}
 use borrow.Author.Tests.{eq-eqb, ne-eqb}
 use Rattle.reel.specs.Machine.{endOf}

@@ -1,4 +1,3 @@
--- `reel::Reel::entry_count` meets its contract. Assumes nothing.
 use borrow.Author.Needs.{needs}
 use borrow.Author.Tests.{le-leb, lt-leb}
 use Rattle.reel.specs.Machine.{entryCountOf}

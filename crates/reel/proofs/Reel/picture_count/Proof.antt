@@ -1,4 +1,3 @@
--- `reel::Reel::picture_count` meets its contract. Assumes nothing.
 use borrow.Author.Needs.{needs}
 use borrow.Author.Tests.{le-leb, lt-leb, eq-eqb, ne-eqb}
 use Rattle.reel.specs.Machine.{pictureCountOf}

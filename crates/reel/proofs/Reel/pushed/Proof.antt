@@ -1,4 +1,3 @@
--- `reel::Reel::pushed` meets its contract. Assumes nothing.
 use borrow.Author.Needs.{needs}
 use Rattle.reel.specs.Inner.{pushedAs}
 use Rattle.reel.proofs.Reel.pushed.Statement.{statement}

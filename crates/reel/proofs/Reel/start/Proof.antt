@@ -1,4 +1,3 @@
--- `reel::Reel::start` meets its contract. Assumes nothing.
 use borrow.Author.Needs.{needs}
 use Rattle.reel.proofs.Reel.start.Statement.{statement}
 use Rattle.reel.proofs.Reel.start.Tie as tie

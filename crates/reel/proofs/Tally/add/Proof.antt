@@ -1,4 +1,3 @@
--- `reel::Tally::add` meets its contract. Assumes nothing.
 use borrow.Author.Needs.{needs}
 use Rattle.reel.proofs.Tally.add.Statement.{statement}
 use Rattle.reel.proofs.Tally.add.Tie as tie

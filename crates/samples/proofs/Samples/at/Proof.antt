@@ -1,4 +1,4 @@
--- `Samples::at` meets its contract: `plane::at` is called, and what its contract says is said. Assumes nothing.
+-- `Samples::at` meets its contract: `plane::at` is called, and what its contract says is said.
 use mathlib.Core.Path.{_≡_}
 use mathlib.Core.List.{[], _∷_}
 use lib.ListN.{length}

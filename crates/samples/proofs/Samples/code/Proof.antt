@@ -1,4 +1,4 @@
--- `Samples::code` meets its contract: `plane::code` is called, and what its contract says is said. Assumes nothing.
+-- `Samples::code` meets its contract: `plane::code` is called, and what its contract says is said.
 use mathlib.Core.Path.{_≡_}
 use mathlib.Core.List.{[], _∷_}
 use lib.IntN.{natAbs}

@@ -1,4 +1,3 @@
--- `Samples::height` meets its contract. Assumes nothing.
 use mathlib.Core.Path.{refl}
 use base.Logic.{emp}
 use contract.Monad.{factI}

@@ -1,4 +1,4 @@
--- `Samples::new` meets its contract: what the plane and the shape own together is what the struct owns. Assumes nothing.
+-- `Samples::new` meets its contract: what the plane and the shape own together is what the struct owns.
 use mathlib.Core.Path.{refl}
 use mathlib.Core.List.{[], _∷_}
 use mir.Syntax.{named}

@@ -1,4 +1,3 @@
--- `telecine::Detector::new` meets its contract. Assumes nothing.
 use borrow.Author.Needs.{needs}
 use Rattle.telecine.proofs.Detector.new.Statement.{statement}
 use Rattle.telecine.proofs.Detector.new.Tie as tie

@@ -1,4 +1,3 @@
--- `telecine::Detector::push` meets its contract. Assumes nothing.
 use lib.ListN.{length}
 use Rattle.plane.specs.Plane.{gridShape}
 use Rattle.telecine.proofs.Calls.{count-done, picture-refused, picture-gave, picture-full}

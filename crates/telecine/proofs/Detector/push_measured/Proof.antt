@@ -1,4 +1,3 @@
--- `telecine::Detector::push_measured` meets its contract. Assumes nothing.
 use Rattle.telecine.proofs.Calls.{measured-gave, measured-refused}
 use borrow.Author.Needs.{needs}
 use Rattle.telecine.proofs.Detector.push_measured.Statement.{statement}

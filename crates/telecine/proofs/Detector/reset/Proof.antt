@@ -1,4 +1,3 @@
--- `telecine::Detector::reset` meets its contract. Assumes nothing.
 use borrow.Author.Needs.{needs}
 use Rattle.telecine.proofs.Detector.reset.Statement.{statement}
 use Rattle.telecine.proofs.Detector.reset.Tie as tie

@@ -1,6 +1,7 @@
 // The numbers that a call gives back, each with the words of docs/RULES.md ("What the desk gets back"), and
-// the lowest of those that apply. Assumes nothing.
+// the lowest of those that apply.
 ghost use mathlib.Core.Path.{_≡_};
+ghost use mathlib.Core.Bool.{cond};
 ghost use mathlib.Core.List.{[], _∷_};
 ghost use Rattle.laws.specs.Refusal.{lowest};
 
@@ -27,8 +28,14 @@ pub const TOO_MANY_FRAMES: u8 = 9;
 // `predict` is asked more than 1,000,000 ahead.
 pub const TOO_FAR_AHEAD: u8 = 10;
 
-// The number of the first test that fails, and 0 where none does. A call that never gives one of the
-// numbers passes `true` for its test, which adds nothing.
+// One test in front of others, as the definition `lowest` of `laws` reads a list: the number where the
+// test fails, and where it passes what those behind it give. Behind the last stands `DONE`.
+pub fn test(number: u8, passes: bool, behind: u8) -> u8
+    ensures { λ r. ⌜ r ≡ cond passes behind number ⌝ }
+{
+    if passes { behind } else { number }
+}
+
 pub fn lowest_of(
     outside: bool,
     shape: bool,
@@ -39,20 +46,21 @@ pub fn lowest_of(
 ) -> u8
     ensures { λ r. ⌜ r ≡ lowest ((3, outside) ∷ (4, shape) ∷ (5, differ) ∷ (6, «short_input») ∷ (7, «short_output») ∷ (8, colour) ∷ []) ⌝ }
 {
-    if !outside {
-        return OUTSIDE;
-    }
-    if !shape {
-        return SHAPE;
-    }
-    if !differ {
-        return DIFFER;
-    }
-    if !short_input {
-        return SHORT_INPUT;
-    }
-    if !short_output {
-        return SHORT_OUTPUT;
-    }
-    if colour { DONE } else { COLOUR }
+    test(
+        OUTSIDE,
+        outside,
+        test(
+            SHAPE,
+            shape,
+            test(
+                DIFFER,
+                differ,
+                test(
+                    SHORT_INPUT,
+                    short_input,
+                    test(SHORT_OUTPUT, short_output, test(COLOUR, colour, DONE)),
+                ),
+            ),
+        ),
+    )
 }
