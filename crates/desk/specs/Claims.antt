@@ -9,7 +9,7 @@ use Rattle.filter.specs.declared.Rows.{Rows}
 use Rattle.colour.specs.declared.Conversion.{Conversion}
 use Rattle.colour.specs.Answer.{toRgbTests}
 use Rattle.comb.specs.Answer.{combTests, rgbaTests}
-use Rattle.desk.specs.declared.planes.PlaneNumbers.{PlaneNumbers}
+use Rattle.numbers.specs.declared.PlaneNumbers.{PlaneNumbers}
 use Rattle.desk.specs.Fields.{firstFieldTests}
 use Rattle.desk.specs.Planes.{codeTests, atTests}
 use Rattle.desk.specs.Filters.{edgeTests, sampleTests, planeTests}

@@ -13,8 +13,9 @@ use Rattle.filter.specs.declared.Quality.the-variants.{Weave, Bob, Yadif, Bwdif
 use Rattle.filter.specs.declared.Rows.{Rows}
 use Rattle.filter.specs.Answer.{edgeTests as filterEdgeTests, sampleTests as filterSampleTests}
 use Rattle.fill.specs.Fill.{linesOf, planeTests as fillPlaneTests, fieldRows}
-use Rattle.desk.specs.declared.planes.PlaneNumbers.{PlaneNumbers}
-use Rattle.desk.specs.Planes.{shapeNamed, named}
+use Rattle.numbers.specs.declared.PlaneNumbers.{PlaneNumbers}
+use Rattle.numbers.specs.Numbers.{shapeNamed}
+use Rattle.desk.specs.Planes.{named}
 
 -- 0 Weave, 1 Bob, 2 Yadif, 3 Bwdif; another code names nothing
 abbrev pub qualityNamed : ℕ → Quality

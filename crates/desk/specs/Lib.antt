@@ -3,5 +3,4 @@ pub mod Fields
 pub mod Planes
 pub mod Filters
 pub mod Colours
-pub mod Inner
 pub mod Claims

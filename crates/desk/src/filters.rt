@@ -1,13 +1,12 @@
 // The rows a field lacks, by number.
-use crate::planes;
-use crate::planes::PlaneNumbers;
+use numbers::PlaneNumbers;
 ghost use mathlib.Core.Path.{_≡_};
 ghost use lib.ListN.{length};
 ghost use Rattle.laws.specs.Refusal.{written};
 ghost use Rattle.laws.specs.Rows.{over};
 ghost use Rattle.plane.specs.Plane.{valueOf};
 ghost use Rattle.filter.specs.Filter.{edgeOf, sampleOf};
-ghost use Rattle.desk.specs.Planes.{shapeNamed};
+ghost use Rattle.numbers.specs.Numbers.{shapeNamed};
 ghost use Rattle.desk.specs.Filters.{qualityNamed, rowsNamed, edgeNo, sampleNo, planeNo, linesNamed};
 
 // 0 Weave, 1 Bob, 2 Yadif, 3 Bwdif.
@@ -36,7 +35,7 @@ pub extern "C" fn desk_edge(cur: &[u8], shape: PlaneNumbers, x: i32, y: i32, sla
     if 3 < shape.layout {
         return refusal::OUTSIDE;
     }
-    match filter::edge(cur, planes::shape_named(shape), x, y) {
+    match filter::edge(cur, numbers::shape_named(shape), x, y) {
         filter::Edged::Slant(found) => {
             *slant = found;
             0
@@ -79,11 +78,11 @@ pub extern "C" fn desk_sample(
     match filter::sample(
         quality_named(quality),
         before,
-        planes::shape_named(before_shape),
+        numbers::shape_named(before_shape),
         cur,
-        planes::shape_named(cur_shape),
+        numbers::shape_named(cur_shape),
         after,
-        planes::shape_named(after_shape),
+        numbers::shape_named(after_shape),
         rows,
         x,
         y,
@@ -125,10 +124,10 @@ pub extern "C" fn desk_plane(
         quality_named(quality),
         field::Parity::named(first as u32),
         before,
-        planes::shape_named(before_shape),
+        numbers::shape_named(before_shape),
         cur,
-        planes::shape_named(cur_shape),
+        numbers::shape_named(cur_shape),
         after,
-        planes::shape_named(after_shape),
+        numbers::shape_named(after_shape),
     )
 }

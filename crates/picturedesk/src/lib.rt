@@ -1,7 +1,6 @@
 // What the capture desk's Rust host calls of pictures, beside crate `desk` and in its manner: numbers
 // and byte slices, the answer a number of docs/RULES.md, "What the desk gets back".
-use desk::planes;
-use desk::planes::PlaneNumbers;
+use numbers::PlaneNumbers;
 ghost use mathlib.Core.Path.{_≡_};
 ghost use lib.ListN.{length};
 ghost use Rattle.laws.specs.Refusal.{written};
@@ -83,9 +82,9 @@ fn output_good(n: OutputNumbers) -> bool
 fn planes_named(n: FrameNumbers) -> plane::Planes
     ensures { λ r. ⌜ r ≡ cutPlanes (planesNamed n) ⌝ }
 {
-    let luma = planes::shape_named(n.luma);
-    let cb = planes::shape_named(n.cb);
-    let cr = planes::shape_named(n.cr);
+    let luma = numbers::shape_named(n.luma);
+    let cb = numbers::shape_named(n.cb);
+    let cr = numbers::shape_named(n.cr);
     plane::Planes {
         luma: luma,
         cb: cb,

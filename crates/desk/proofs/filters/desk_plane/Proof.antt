@@ -13,7 +13,7 @@ use Rattle.plane.specs.declared.Shape.{Shape}
 use Rattle.plane.specs.Plane.{valueOf}
 use Rattle.fill.specs.Fill.{linesOf, planeTests, fieldRows}
 use Rattle.field.specs.Field.{parityNamed}
-use Rattle.desk.specs.Planes.{shapeNamed}
+use Rattle.numbers.specs.Numbers.{shapeNamed}
 use Rattle.desk.specs.Filters.{qualityNamed, allNamed}
 use Rattle.desk.proofs.Cut.{plane-number, plane-value}
 use Rattle.desk.proofs.filters.desk_plane.Statement.{statement}

@@ -15,7 +15,7 @@ use Rattle.plane.specs.Plane.{valueOf}
 use Rattle.plane.specs.Answer.{sampledNo, sampledValues}
 use Rattle.filter.specs.Filter.{sampleOf}
 use Rattle.filter.specs.Answer.{sampleTests}
-use Rattle.desk.specs.Planes.{shapeNamed}
+use Rattle.numbers.specs.Numbers.{shapeNamed}
 use Rattle.desk.specs.Filters.{qualityNamed, rowsNamed, allNamed, sampleNo}
 use Rattle.desk.proofs.Cut.{sample-number, sample-value}
 use Rattle.desk.proofs.filters.desk_sample.Statement.{statement}

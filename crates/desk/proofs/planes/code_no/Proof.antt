@@ -13,9 +13,10 @@ use Rattle.laws.proofs.Refusal.{lowest-halves}
 use Rattle.plane.specs.Plane.{goodShape, planeBytes}
 use Rattle.plane.specs.Coordinates.{inside}
 use Rattle.plane.specs.Answer.{readTests}
-use Rattle.desk.specs.declared.planes.PlaneNumbers.{PlaneNumbers}
-use Rattle.desk.specs.Planes.{shapeNamed, codeNo}
-use Rattle.desk.specs.Inner.{cut}
+use Rattle.numbers.specs.declared.PlaneNumbers.{PlaneNumbers}
+use Rattle.numbers.specs.Numbers.{shapeNamed}
+use Rattle.desk.specs.Planes.{codeNo}
+use Rattle.numbers.specs.Inner.{cut}
 use Rattle.desk.proofs.Cut.{read-number}
 use Rattle.desk.proofs.planes.code_no.Statement.{statement}
 use Rattle.desk.proofs.planes.code_no.Tie as tie

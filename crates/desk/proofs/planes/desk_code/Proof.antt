@@ -18,7 +18,8 @@ use Rattle.plane.specs.Plane.{goodShape, codeOf}
 use Rattle.plane.specs.Coordinates.{inside}
 use Rattle.plane.proofs.Bounds.{good-within}
 use Rattle.plane.proofs.Coordinates.{both-inside, inside-nonneg, inside-below}
-use Rattle.desk.specs.Planes.{shapeNamed, codeNo}
+use Rattle.numbers.specs.Numbers.{shapeNamed}
+use Rattle.desk.specs.Planes.{codeNo}
 use Rattle.desk.proofs.Cut.{cut-same, read-good}
 use Rattle.desk.proofs.planes.desk_code.Statement.{statement}
 use Rattle.desk.proofs.planes.desk_code.Tie as tie

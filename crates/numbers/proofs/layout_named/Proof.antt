@@ -1,6 +1,6 @@
 use borrow.Author.Tests.{eq-eqb, ne-eqb}
-use Rattle.desk.proofs.planes.layout_named.Statement.{statement}
-use Rattle.desk.proofs.planes.layout_named.Tie as tie
+use Rattle.numbers.proofs.layout_named.Statement.{statement}
+use Rattle.numbers.proofs.layout_named.Tie as tie
 
 returns : tie.Need-returns
 returns c = simp (eq-eqb _ _ (c .if1 .taken))
