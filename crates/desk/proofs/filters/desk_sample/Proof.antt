@@ -85,10 +85,13 @@ returns-2 d =
     let a = k .before .before .before .before .before .before .before .before .before .args in
     let zero = ap sampledNo (d .before .found .given .1) in
     let done = sym zero ∙ number k in
-    let same = sample-same (making k) (allNamed (a .quality) (a .before-shape) (a .cur-shape) (a .after-shape)) _ _ _ _ _ (sym done) in (
+    let same =
+    sample-same (making k) (allNamed (a .quality) (a .before-shape) (a .cur-shape) (a .after-shape)) (length (now (a .before))) (length (now (a .cur)))
+    (length (now (a .after))) (a .x) (a .y) (sym done)
+    in (
       done,
       handed-value sampledNo sampledValues (d .before .found .given .1) zero
-          (value k ∙ ap (λ (m : Making). sampleIn m (now (a .before)) (now (a .cur)) (now (a .after)) (a .x) (a .y)) same) _ refl refl refl
+          (value k ∙ ap (λ (m : Making). sampleIn m (now (a .before)) (now (a .cur)) (now (a .after)) (a .x) (a .y)) same) (now (a .value)) refl refl refl
           (k .sample .ensures .1)
           .1,
     )
