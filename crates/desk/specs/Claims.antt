@@ -35,8 +35,8 @@ EdgeSays = (n : PlaneNumbers) (bytes : ℕ) (x y : ℤ) → Says (edgeTests n by
 
 abbrev pub SampleSays : Type 0
 SampleSays =
-    (quality : ℕ) (rows : Rows) (before : PlaneNumbers) (before-bytes : ℕ) (cur : PlaneNumbers) (cur-bytes : ℕ) (after : PlaneNumbers) (after-bytes : ℕ)
-    (x y : ℤ) → Says (sampleTests quality rows before before-bytes cur cur-bytes after after-bytes x y)
+    (quality : ℕ) (rows : Rows) (before cur after : PlaneNumbers) (before-bytes cur-bytes after-bytes : ℕ) (x y : ℤ) →
+    Says (sampleTests quality rows before cur after before-bytes cur-bytes after-bytes x y)
 
 abbrev pub PlaneSays : Type 0
 PlaneSays =

@@ -3,4 +3,5 @@ pub mod Fields
 pub mod Planes
 pub mod Filters
 pub mod Colours
+pub mod Inner
 pub mod Claims

@@ -6,7 +6,7 @@ ghost use lib.ListN.{length};
 ghost use Rattle.laws.specs.Refusal.{written};
 ghost use Rattle.laws.specs.Rows.{over};
 ghost use Rattle.picture.specs.Picture.{frameOf, pictureOf};
-ghost use Rattle.desk.specs.Filters.{qualityNamed};
+ghost use Rattle.filter.specs.Rows.{qualityNamed};
 ghost use Rattle.picturedesk.specs.Inner.{cutPlanes};
 ghost use Rattle.picturedesk.specs.Pictures.{chosenNamed, sourceNamed, outputNamed, planesNamed, layoutsNamed, outputGood, allNamed, pictureNamedNo};
 
@@ -143,7 +143,7 @@ pub extern "C" fn desk_picture(
     }
     picture::picture_of(
         out,
-        desk::filters::quality_named(quality),
+        filter::Quality::named(quality),
         output_named(output),
         conversion,
         planes_named(previous),
