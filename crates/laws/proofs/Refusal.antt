@@ -95,7 +95,20 @@ says tests (inr j) = record {
 pub lowest-of-rising : (tests : List (ℕ × Bool)) → T (rising 1 tests) → Says tests
 lowest-of-rising tests r = says tests (judge 1 tests (lit< tt) r)
 
--- a call that gets 0 passed its first test, and all tests behind it
+-- a call that gets 0 passed every test: `.0` says so of the first, `.1 .0` of the second, and so on
+abbrev pub AllPass : List (ℕ × Bool) → Type 0
+AllPass [] = Unit {0}
+AllPass ((n, passes) ∷ tests) = (passes ≡ true) × AllPass tests
+
+passes-from : (n : ℕ) (tests : List (ℕ × Bool)) → 0 < n → T (rising n tests) → lowest tests ≡ 0 → AllPass tests
+unfolding lowest rising
+passes-from n [] N r z = tt
+passes-from n ((m, true) ∷ tests) N r z = (refl, passes-from m tests (omega (arith, step-up n m tests r)) (rest-rises n m tests r) z)
+passes-from n ((m, false) ∷ tests) N r z = absurd (not-both m z (omega (arith, step-up n m tests r)))
+
+pub all-pass : (tests : List (ℕ × Bool)) → T (rising 1 tests) → lowest tests ≡ 0 → AllPass tests
+all-pass tests r z = passes-from 1 tests (lit< tt) r z
+
 pub first-passes : (n : ℕ) (passes : Bool) (tests : List (ℕ × Bool)) → 0 < n → lowest ((n, passes) ∷ tests) ≡ 0 → passes ≡ true
 unfolding lowest
 first-passes n true tests N e = refl
