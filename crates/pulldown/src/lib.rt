@@ -43,7 +43,7 @@ const MOST_STILL: usize = 12;
 const NO_PHASE: u8 = 5;
 
 // How many frames are taken, and how far ahead is foretold; more is refused.
-const MOST_FRAMES: u64 = 4000000000;
+pub const MOST_FRAMES: u64 = 4000000000;
 
 const MOST_AHEAD: u64 = 1000000;
 
