@@ -123,7 +123,7 @@ pub extern "C" fn desk_plane(
     fill::plane(
         out,
         quality_named(quality),
-        field::Parity::named(first as u32),
+        field::Parity::named(first as u64),
         before,
         planes::shape_named(before_shape),
         cur,

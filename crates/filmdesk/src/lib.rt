@@ -341,7 +341,7 @@ pub extern "C" fn desk_busy(
     if 1 < parity {
         return refusal::OUTSIDE;
     }
-    match block::count(plane, grid_of(grid), store, Parity::named(parity as u32)) {
+    match block::count(plane, grid_of(grid), store, Parity::named(parity as u64)) {
         Counted::Value(counts) => {
             *busy = counts.busy;
             *total = counts.total;
@@ -452,7 +452,7 @@ pub extern "C" fn desk_detector_push_measured(
         return refusal::SHORT_INPUT;
     }
     let measured = measured_named(present, busy, total, other_busy, other_total);
-    match push_counts(state, Parity::named(parity as u32), measured) {
+    match push_counts(state, Parity::named(parity as u64), measured) {
         Answer::Gave(found) => {
             let given = found.number();
             *cadence = given;
@@ -487,7 +487,7 @@ pub extern "C" fn desk_detector_push(
         return refused;
     }
     let detector = detector_in(state);
-    let pushed = detector.push(plane, picture, Parity::named(parity as u32), store);
+    let pushed = detector.push(plane, picture, Parity::named(parity as u64), store);
     let after = pushed.detector;
     let answer = pushed.answer;
     match answer {

@@ -88,7 +88,7 @@ fn pictured_in(unit: &[u8]) -> Pictured
     ensures { λ r. ⌜ r ≡ picturedIn (now (unit .entry)) ⌝ }
 {
     let shape = shape_in(unit);
-    let first = Parity::named(word_at(unit, 8) as u32);
+    let first = Parity::named(word_at(unit, 8) as u64);
     Pictured {
         given: true,
         shape: shape,

@@ -86,16 +86,16 @@ module _ (d : Detector) (store plane : List ℕ) (s : Shape) (first : Parity) {n
     unfolding lowest
     lock-done = rw (all .1 .1 .1 .0)
 
-    pub picture-left : {seen : Seen} {l : Lock} {last : Chosen} {number′ : ℕ} {values : List Cadence} {kept : List ℕ}
+    pub picture-left : {seen : Seen} {l : Lock} {last : Chosen} {number′ : ℕ} {values : List Cadence} {keep-number : ℕ} {kept : List ℕ}
         → seen ≡ seenPicture (d .kept) store plane s first → l ≡ pushLock (d .lock) seen → last ≡ lastAfter (d .lock) (d .last) first
         → number′ ≡ lock.pushNo (d .lock) → values ≡ whenDone (lock.pushNo (d .lock)) (lock.pushCadence (d .lock) seen)
-        → kept ≡ written (keepNo s (length plane) (length store)) (over (keptFrame plane s) store) store
+        → keep-number ≡ keepNo s (length plane) (length store) → kept ≡ written keep-number (over (keptFrame plane s) store) store
         → (record { lock = l; kept = keptAs s first; last = last } ≡ pushDetector d store plane s first)
         × ((number′ ≡ number) × ((values ≡ pushValues d store plane s first) × (kept ≡ pushStore d store plane s)))
-    picture-left seen-is lock-is last-is number-is values-are kept-is = (
+    picture-left seen-is lock-is last-is number-is values-are keep-is kept-is = (
       rw (done, lock-is, last-is, lock-done, seen-is),
       (
         rw (done, number-is, lock-done),
-        (rw (done, values-are, lock-done, seen-is), rw done (rw keep-done at kept-is)),
+        (rw (done, values-are, lock-done, seen-is), rw done (rw (keep-is, keep-done) at kept-is)),
       ),
     )

@@ -27,10 +27,10 @@ refusal-known store u earlier = number-known (length store) (after store earlier
 
 -- ---- demand 3
 module _ (store : List ℕ) (u : Push) (calls : List Call) where
-  abbrev known : List Call
+  abbrev pub known : List Call
   known = taken (length store) calls
 
-  cadence-is : cadenceOf store u calls ≡ lock.pushCadence (lockOf (seens known)) (seenOf u known)
+  pub cadence-is : cadenceOf store u calls ≡ lock.pushCadence (lockOf (seens known)) (seenOf u known)
   cadence-is = cadence-known (after store calls) known (any-reached store calls) u
 
 pub third-demand : ThirdDemand

@@ -39,7 +39,7 @@ returns-2 c =
     let a = judged .before .before .before .args in
     let e = step .step .ensures in
     picture-left (a .self) (a .store .now) (a .plane .now) (gridShape (a .grid)) (a .first) (judged .picture-no .ensures) (passed .if1 .left)
-    (looked .seen-picture .ensures) (e .0) (e .1 .0) (e .1 .1 .0) (e .1 .1 .1) (kept .keep .ensures .1)
+    (looked .seen-picture .ensures) (e .0) (e .1 .0) (e .1 .1 .0) (e .1 .1 .1) (kept .keep .ensures .0) (kept .keep .ensures .1)
 
 pub push-spec : {M : Type 1} → statement M
 push-spec =
