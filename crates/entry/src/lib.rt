@@ -1,7 +1,7 @@
 // Measured entries as a reel file lays them out (docs/RULES.md, "Reel file and listing"), and their
 // cadences from a fresh detector. The desk and the reel's reader stand on the same entry.
 ghost use mathlib.Core.Path.{_≡_};
-ghost use Prim.Native.Nat.{_+_, _*_, _/_, _<_, _≤_};
+ghost use Prim.Native.Nat.{_+_, _*_, _<_, _≤_};
 ghost use lib.ListN.{length, getD};
 ghost use Rattle.laws.specs.Refusal.{written};
 ghost use Rattle.laws.specs.Rows.{listed, over};
@@ -109,11 +109,10 @@ fn all_good(entries: &[u8], n: usize) -> bool
     good
 }
 
-// What refuses entries, n of them whole.
-fn cadences_no(entries: &[u8], n: usize, room: usize) -> u8
-    requires { ⌜ n ≡ length (now entries) / 12 ⌝ }
+fn cadences_no(entries: &[u8], room: usize) -> u8
     ensures { λ r. ⌜ r ≡ cadencesNo (now (entries .entry)) room ⌝ }
 {
+    let n = entries.len() / 12;
     let few = refusal::test(refusal::TOO_MANY_FRAMES, n <= 4000000000, refusal::DONE);
     let output = refusal::test(refusal::SHORT_OUTPUT, n <= room, few);
     let input = refusal::test(refusal::SHORT_INPUT, entries.len() % 12 == 0, output);
@@ -152,10 +151,9 @@ pub fn cadences(out: &mut [u8], entries: &[u8]) -> u8
     ensures { λ r. ⌜ r ≡ cadencesNo (now (entries .entry)) (length (now (out .entry))) ⌝ }
     ensures { λ r. ⌜ now (out .exit) ≡ written r (over (cadencesOf (now (entries .entry))) (now (out .entry))) (now (out .entry)) ⌝ }
 {
-    let n = entries.len() / 12;
-    let no = cadences_no(entries, n, out.len());
+    let no = cadences_no(entries, out.len());
     if no == 0 {
-        write_cadences(out, entries, n);
+        write_cadences(out, entries, entries.len() / 12);
     }
     no
 }
