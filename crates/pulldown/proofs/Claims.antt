@@ -22,7 +22,7 @@ use Rattle.pulldown.specs.Runs.{Frame, frameOf, stepOf, Meets, meets, ph
 use Rattle.pulldown.specs.Lock.{advanceOf, pushLock, lockOf}
 use Rattle.pulldown.specs.Claims.{Third, ThirdDemand, OnePhase, MeetsDecided, PhaseSays}
 use Rattle.pulldown.specs.Claims.{Contradicts, Runs, RunConsecutive, Locked, LockFrameSays, LockedSays, PredictSays, PushSays, PredictNo, AnswerSettled, CodeSeen}
-use Rattle.pulldown.proofs.Bools.{known, clash, and-left, and-right}
+use Rattle.laws.proofs.Bools.{known, clash, and-left, and-right}
 use Rattle.pulldown.proofs.Phases.{meets-of, meets-from, phase-is, phase-met, phase-none, no-phase, none-met, met-before}
 use Rattle.pulldown.proofs.Phases as phases
 use Rattle.pulldown.proofs.Holds.{Holds, holds-fresh, holds-next}

@@ -23,7 +23,7 @@ use Rattle.pulldown.specs.declared.Seen.{Seen}
 use Rattle.pulldown.specs.declared.Lock.{Lock}
 use Rattle.pulldown.specs.Lock.{pushLock, advanceOf}
 use Rattle.pulldown.specs.Lock as lock
-use Rattle.pulldown.proofs.Bools.{and-left}
+use Rattle.laws.proofs.Bools.{and-left}
 use Rattle.telecine.specs.declared.Detector.{Detector}
 use Rattle.telecine.specs.declared.Kept.{Kept}
 use Rattle.telecine.specs.declared.Measured.{Measured}

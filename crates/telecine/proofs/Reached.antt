@@ -19,7 +19,7 @@ use Rattle.pulldown.specs.declared.Seen.{Seen}
 use Rattle.pulldown.specs.Lock.{advanceOf, pushCadence, lockOf}
 use Rattle.pulldown.proofs.Claims.{holds, push-taken}
 use Rattle.telecine.specs.declared.Measured.{Measured}
-use Rattle.telecine.specs.Detector.{seenMeasured, seenPicture, keptBytes}
+use Rattle.telecine.specs.Detector.{seenMeasured, seenPicture, measuredTests, keptBytes, pushTests}
 use Rattle.telecine.specs.History.{Push, picture, measured, Call, push, reset, State, numberIn, cadenceIn, next, after}
 use Rattle.telecine.specs.History.{lastPicture, lastParity, seenOf, seens, framesOf, refusalTests, refusalOf, taken}
 use Rattle.telecine.proofs.Stored.{keptBy, frameBy, kept-within, kept-long, same-seen}
@@ -117,6 +117,13 @@ module _ {room : ℕ} (state : State) (earlier : List Call) (h : Reached room st
   pub cadence-known : (u : Push) → cadenceIn state u ≡ pushCadence (lockOf (seens earlier)) (seenOf u earlier)
   cadence-known (picture plane s first) = rw (picture-seen room state earlier h plane s first, h .lock)
   cadence-known (measured first m) = rw (measured-seen room state earlier h first m, h .lock)
+
+-- a push that is taken comes to a detector that is not full
+pub few-taken : (state : State) (u : Push) → numberIn state u ≡ 0 → state .detector .lock .course .taken < 4000000000
+unfolding rising
+few-taken state (picture plane s first) e =
+    ltb-true _ _ (all-pass (pushTests (state .detector) s (length plane) (length (state .store))) tt e .1 .1 .1 .0)
+few-taken state (measured first m) e = ltb-true _ _ (all-pass (measuredTests (state .detector)) tt e .0)
 
 -- a push that is refused
 pub refused-leaves : (state : State) (u : Push) → (numberIn state u ≡ 0 → ⊥) → next state (push u) ≡ state

@@ -21,7 +21,6 @@ use Rattle.filmdesk.specs.Kept.{detectorIn, keeping}
 use Rattle.filmdesk.specs.Inner.{gridOf}
 use Rattle.filmdesk.specs.Film.{gridNamed, pushStateNo}
 use Rattle.filmdesk.proofs.Grids.{cut-alike}
-use Rattle.filmdesk.proofs.General.{Answered, said, value, stays}
 use Rattle.filmdesk.proofs.Kept.{found-ring, pushed-ring}
 use Rattle.filmdesk.proofs.Calls.{firstStep, first-step-refuses, first-step-passes, first-step-good, state-room}
 use Rattle.filmdesk.proofs.desk_detector_push.Statement.{statement}
@@ -98,7 +97,7 @@ enum-known-answer c = search needs
 -- the detector's own answer, as one of this call, and the detector and the store that it hands back
 answered :
     (k : tie.After-push) → let a = k .before .before .before .before .before .before .before .before .before .before .before .before .before .args in
-    Answered answerNo answerValues (k .push .result .answer)
+    Tells answerNo answerValues (k .push .result .answer)
     (pushStateNo (a .grid) (a .parity) (length (now (a .plane))) (length (now (a .store))) (length (now (a .state))) (detectorIn (now (a .state))))
     (pushCadence (detectorIn (now (a .state))) (now (a .store)) (now (a .plane)) (gridNamed (a .grid)) (parityNamed (a .parity)))
 answered k =
@@ -171,12 +170,12 @@ returns-2 c =
     let k = known .before .before .before .before .before in
     let a = k .before .before .before .before .before .before .before .before .before .before .before .before .before .args in
     let h = answered k in (
-      said h (known .answer .given .1),
+      told-number h (known .answer .given .1),
       (
         kept .keep .ensures ∙ ap (λ (d : Detector). keeping d (now (a .state))) (handed-back k),
         (
           k .push .ensures .3 ∙ (λ i. pushStore (k .before .before .before .detector-in .ensures i) (now (a .store)) (now (a .plane)) (picture-is (k .before .before .before .before .before) i)),
-          c .number .ensures ∙ ap cadenceNumber (value h (known .answer .given .1) refl refl),
+          c .number .ensures ∙ ap cadenceNumber (told-value h (known .answer .given .1) refl refl),
         ),
       ),
     )
@@ -194,16 +193,16 @@ returns-3 c =
     let a = k .before .before .before .before .before .before .before .before .before .before .before .before .before .args in
     let h = answered k in
     let picture = gridShape (k .before .before .before .before .before .before .before .before .before .grid-of .result) in (
-      said h (known .answer2 .given .1),
+      told-number h (known .answer2 .given .1),
       (
-        stays h (known .answer2 .given .1) refl _ _,
+        told-nothing h (known .answer2 .given .1) refl _ _,
         (
           k .push .ensures .3
               ∙ ap (λ (n : ℕ). written n (over (keptFrame (now (a .plane)) picture) (now (a .store))) (now (a .store)))
               (sym (k .push .ensures .1) ∙ ap answerNo (known .answer2 .given .1))
-              ∙ sym (stays h (known .answer2 .given .1) refl _ _)
-              ∙ stays h (known .answer2 .given .1) refl _ _,
-          stays h (known .answer2 .given .1) refl _ _,
+              ∙ sym (told-nothing h (known .answer2 .given .1) refl _ _)
+              ∙ told-nothing h (known .answer2 .given .1) refl _ _,
+          told-nothing h (known .answer2 .given .1) refl _ _,
         ),
       ),
     )
