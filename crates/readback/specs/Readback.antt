@@ -62,10 +62,10 @@ abbrev pub readbackNo : Readback → ℕ → ℕ → ℕ → ℕ → ℕ → ℕ
 readbackNo r luma second third luma-room cb-room cr-room = lowest (readbackTests r luma second third luma-room cb-room cr-room)
 
 -- the same of what a call is lent: three planes, then three outputs
-abbrev pub lentNo :
+abbrev pub readbackNoOf :
     {A B C D E F : Type 0} → Readback → Both (RefT (List ℕ)) A → Both (RefT (List ℕ)) B → Both (RefT (List ℕ)) C → Both (RefT (List ℕ)) D
     → Both (RefT (List ℕ)) E → Both (RefT (List ℕ)) F → ℕ
-lentNo r luma second third out-luma out-cb out-cr =
+readbackNoOf r luma second third out-luma out-cb out-cr =
     readbackNo r (length (now (luma .entry))) (length (now (second .entry))) (length (now (third .entry))) (length (now (out-luma .entry)))
     (length (now (out-cb .entry))) (length (now (out-cr .entry)))
 
@@ -84,5 +84,5 @@ unfoldable pub copiedOf : List ℕ → Shape → List ℕ
 copiedOf bytes s = laid (s .height) (copiedRow bytes s)
 
 -- what an output holds after a call that gets this number
-abbrev pub outAfter : ℕ → List ℕ → Shape → List ℕ → List ℕ
-outAfter number bytes s out = written number (over (copiedOf bytes s) out) out
+abbrev pub copiedAfter : ℕ → List ℕ → Shape → List ℕ → List ℕ
+copiedAfter number bytes s out = written number (over (copiedOf bytes s) out) out

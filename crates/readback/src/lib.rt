@@ -14,7 +14,7 @@ ghost use lib.ListN.{length, getD};
 ghost use Rattle.laws.specs.Rows.{laid, over};
 ghost use Rattle.plane.specs.declared.Layout.the-variants.{Luma};
 ghost use Rattle.plane.specs.Plane.{sampleBytes, goodShape, planeBytes, half};
-ghost use Rattle.readback.specs.Readback.{lumaShape, shared, cbShape, crShape, crBytes, packedBytes, readbackNo, copiedOf, lentNo, outAfter};
+ghost use Rattle.readback.specs.Readback.{lumaShape, shared, cbShape, crShape, crBytes, packedBytes, readbackNo, copiedOf, readbackNoOf, copiedAfter};
 ghost use Rattle.readback.specs.Inner.{kindOf, stepOf, copyIn, RowRoom, PlaneReady};
 ghost use Rattle.readback.specs.declared.Kind.the-variants.{Byte, EverySecondByte, Pair, EverySecondPair};
 use plane::Layout;
@@ -351,10 +351,10 @@ pub fn frame_of_readback(
     second: &[u8],
     third: &[u8],
 ) -> u8
-    ensures { λ r. ⌜ r ≡ lentNo about luma second third «out_luma» «out_cb» «out_cr» ⌝ }
-    ensures { λ r. ⌜ now («out_luma» .exit) ≡ outAfter r (now (luma .entry)) (lumaShape about) (now («out_luma» .entry)) ⌝ }
-    ensures { λ r. ⌜ now («out_cb» .exit) ≡ outAfter r (now (second .entry)) (cbShape about) (now («out_cb» .entry)) ⌝ }
-    ensures { λ r. ⌜ now («out_cr» .exit) ≡ outAfter r (crBytes about (now (second .entry)) (now (third .entry))) (crShape about) (now («out_cr» .entry)) ⌝ }
+    ensures { λ r. ⌜ r ≡ readbackNoOf about luma second third «out_luma» «out_cb» «out_cr» ⌝ }
+    ensures { λ r. ⌜ now («out_luma» .exit) ≡ copiedAfter r (now (luma .entry)) (lumaShape about) (now («out_luma» .entry)) ⌝ }
+    ensures { λ r. ⌜ now («out_cb» .exit) ≡ copiedAfter r (now (second .entry)) (cbShape about) (now («out_cb» .entry)) ⌝ }
+    ensures { λ r. ⌜ now («out_cr» .exit) ≡ copiedAfter r (crBytes about (now (second .entry)) (now (third .entry))) (crShape about) (now («out_cr» .entry)) ⌝ }
 {
     let no = readback_no(
         about,
