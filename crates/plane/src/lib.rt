@@ -111,7 +111,7 @@ pub fn is_alone(layout: Layout) -> bool
     }
 }
 
-fn sample_bytes(depth: u32) -> usize
+pub fn sample_bytes(depth: u32) -> usize
     ensures { λ r. ⌜ (r ≡ sampleBytes depth) × (r ≤ 2) ⌝ }
 {
     if depth <= 8 { 1 } else { 2 }
@@ -360,7 +360,7 @@ pub fn planes_agree(a: Shape, b: Shape) -> bool
     (a.width == b.width) & (a.height == b.height) & (a.depth == b.depth)
 }
 
-fn half_of(n: u16) -> u16
+pub fn half_of(n: u16) -> u16
     ensures { λ r. ⌜ r ≡ half n ⌝ }
 {
     ((n as u32 + 1) / 2) as u16
