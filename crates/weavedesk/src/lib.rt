@@ -555,7 +555,7 @@ pub extern "C" fn desk_weaver_push(
         luma,
         cb,
         cr,
-        Parity::named(parity as u32),
+        Parity::named(parity as u64),
         time_named(timed, time),
         store,
         out_luma,
