@@ -22,7 +22,7 @@ ghost use Rattle.weavedesk.specs.Waiting.{keeping, weaverIn, weaverNumbe
 ghost use Rattle.weavedesk.specs.Push.{lent, offer, newNo, clearNo, emptied, timeNamed, pushNo, stateAfter, storeAfter, lumaAfter, cbAfter, crAfter, pictureNumber, timedNumber, timeNumber, pictureAfter, timedAfter, timeAfter};
 ghost use Rattle.weavedesk.specs.Inner.{fieldCut, readbackCut, timesIn};
 
-// The three planes of a field, whose lines are at most 2,176.
+// The three planes of a field, which has at most 2,176 lines.
 #[repr(C)]
 pub struct FieldNumbers {
     pub luma: GridNumbers,
