@@ -1,6 +1,7 @@
 -- The laws that the proofs of the functions cite, and the claims.
+pub mod Columns
+pub mod Slants
 pub mod Expanded
 pub mod Places
 pub mod Chosen
-pub mod Judged
-pub mod Claims
+pub mod Tiles

@@ -7,6 +7,7 @@ use lib.Dec.{leb, lit≤}
 use Rattle.laws.specs.Refusal.{rising}
 use Rattle.laws.proofs.Claims.{lowest-says}
 use Rattle.float.specs.Bounds.{Unit}
+use Rattle.plane.proofs.Claims.{value-finite}
 use Rattle.field.specs.declared.Chosen.{Chosen}
 use Rattle.field.specs.declared.Chosen.the-variants as chosen
 use Rattle.field.specs.declared.Parity.the-variants as parity
@@ -19,7 +20,7 @@ use Rattle.filter.proofs.Samples.{woven-mate, woven-own, shown-own, mis
 use Rattle.filter.proofs.Slants as tries
 
 pub plane-is-readable : PlaneIsReadable
-plane-is-readable = sizes.plane-is-readable
+plane-is-readable bytes s all x y = value-finite bytes all s x y .0
 
 pub made-in-unit : MadeInUnit
 made-in-unit quality rows before cur after b c a x y w h =
@@ -49,7 +50,7 @@ edge-says s bytes x y = lowest-says _ tt
 
 pub sample-says : SampleSays
 unfolding rising
-sample-says rows before before-bytes cur cur-bytes after after-bytes x y = lowest-says _ tt
+sample-says making before cur after x y = lowest-says _ tt
 
 -- the first row of the field that was chosen, and another number where neither was
 first-good : (chosen : Chosen) (none most : ℕ) → 1 ≤ most → none ≤ most → leb (firstRowOr chosen none) most ≡ true

@@ -1,25 +1,18 @@
 -- How large the values are on the way to a made row, from samplers whose values are at most 2 ^ 16 in size: every value is finite, so the
 -- last clamp brings it into 0..1, and the ends of the clamp before it are in order.
-use Prim.Native.Nat.{ℕ, _+_, _*_, _^_, _≤_, _<_, min, max}
+use Prim.Native.Nat.{_≤_}
 use mathlib.Core.Path.{_≡_}
 use mathlib.Core.Bool.{Bool, true, false, cond, true≢false}
-use mathlib.Core.List.{List}
-use native.Mathlib.Nat.{le-trans, div-le-self}
-use native.Mathlib.Omega.{arith}
-use lib.Dec.{T, leb, eqb, lit≤}
+use lib.Dec.{T, eqb, lit≤}
 use lib.IntN.{ℤ, natAbs, _+ℤ_, _-ℤ_}
-use lib.ListN.{getD}
-use lib.Pow.{pow-mono}
 use lib.Ieee.{Float, binary32, add, sub, lt, le, ofBits}
 use lib.Ieee.Scale.{finite}
 use Rattle.float.specs.Bounds.{Small, Away, NotNegative, Unit}
-use Rattle.float.proofs.Small.{small-abs, small-min, small-max, small-clamp, small-add, small-sub, small-mul, small-div, small-more, small-zero, small-finite, small-whole, away-whole}
+use Rattle.float.proofs.Small.{small-abs, small-min, small-max, small-clamp, small-add, small-sub, small-mul, small-div, small-more, small-zero, small-finite, small-whole}
 use Rattle.float.proofs.Order.{le-of-not-lt}
 use Rattle.float.proofs.Chain.{lt-of-not-le}
 use Rattle.float.proofs.Range.{not-negative-zero, not-negative-max, unit-clamp}
 use Rattle.float.proofs.Ends.{ends-in-order}
-use Rattle.plane.specs.declared.Shape.{Shape}
-use Rattle.plane.specs.Plane.{startOf, storedAt, codeOf, fullCode, valueOf}
 use Rattle.filter.specs.declared.Quality.{Quality}
 use Rattle.filter.specs.declared.Quality.the-variants.{Weave, Bob, Yadif, Bwdif}
 use Rattle.filter.specs.Filter.{Sampler, one, halfF, nineF, sixteenF, slantBias, acrossOf, scoreOf, slantedOf, meanOf, gapOf, widerOf, beyondOf, bobOf, heldOf, averageOf, changeOf, aboveOf, belowOf, outsideOf, movedOf, inMotionOf, nearOf, farOf, yadifOf, cubicOf, bwdifOf, madeOf, edgeOf}
@@ -164,29 +157,3 @@ module _ (cur : Sampler) (c : Readable cur) (x y : ℤ) where
       let a = finite-score i few-i in
       let b = finite-score j few-j in
       (le-of-not-lt _ _ a b, λ h. lt-of-not-le _ _ b a h)
-
--- ---- of a plane
-stored-small : (bytes : List ℕ) → ((i : ℕ) → getD bytes i 0 < 256) → (depth i : ℕ) → storedAt bytes depth i ≤ 2 ^ 16
-stored-small bytes h depth i = go (leb depth 8)
-  where
-    go : (b : Bool) → cond b (getD bytes i 0) (getD bytes i 0 + 256 * getD bytes (i + 1) 0) ≤ 2 ^ 16
-    go true = omega (arith, h i)
-    go false = omega (arith, h i, h (i + 1))
-
-depths : (depth : ℕ) → (8 ≤ max 8 (min depth 16)) × (max 8 (min depth 16) ≤ 16)
-depths depth = (omega arith, omega arith)
-
-full-least : (depth : ℕ) → 0 < fullCode depth
-full-least depth = omega (arith, pow-mono (depths depth .0))
-
-full-most : (depth : ℕ) → fullCode depth ≤ 2 ^ 24
-full-most depth = omega (arith, pow-mono (depths depth .1))
-
-code-small : (bytes : List ℕ) (s : Shape) → ((i : ℕ) → getD bytes i 0 < 256) → (x y : ℕ) → codeOf bytes s x y ≤ 2 ^ 16
-unfolding codeOf
-code-small bytes s h x y = le-trans (div-le-self _ _) (stored-small bytes h (s .depth) (startOf s x y))
-
-pub plane-is-readable : (bytes : List ℕ) (s : Shape) → ((i : ℕ) → getD bytes i 0 < 256) → Readable (valueOf bytes s)
-unfolding valueOf
-plane-is-readable bytes s h x y =
-    small-div (small-whole 16 _ (code-small bytes s h _ _) tt) (away-whole _ (full-least (s .depth)) (full-most (s .depth))) tt

@@ -18,6 +18,7 @@ use Rattle.plane.specs.Coordinates.{parityOf}
 use Rattle.filter.specs.declared.Quality.{Quality}
 use Rattle.filter.specs.declared.Quality.the-variants.{Weave}
 use Rattle.filter.specs.declared.Rows.{Rows}
+use Rattle.filter.specs.declared.Making.{Making}
 use Rattle.filter.specs.declared.Edged.{Edged}
 use Rattle.filter.specs.Filter.{Sampler, averageOf, movedOf, scoreOf, slantedOf, edgeOf, sampleOf}
 use Rattle.filter.specs.Rows.{weaves, goodRows, rowsOf, fieldRowsOf}
@@ -115,9 +116,7 @@ abbrev pub EdgeSays : Type 0
 EdgeSays = (s : Shape) (bytes : ℕ) (x y : ℤ) → Says (edgeTests s bytes x y)
 
 abbrev pub SampleSays : Type 0
-SampleSays =
-    (rows : Rows) (before : Shape) (before-bytes : ℕ) (cur : Shape) (cur-bytes : ℕ) (after : Shape) (after-bytes : ℕ) (x y : ℤ) →
-    Says (sampleTests rows before before-bytes cur cur-bytes after after-bytes x y)
+SampleSays = (making : Making) (before cur after : ℕ) (x y : ℤ) → Says (sampleTests making before cur after x y)
 
 -- The rows that an output asks for, and those of one field, are never refused.
 abbrev pub OutputRowsGood : Type 0

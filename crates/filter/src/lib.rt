@@ -12,8 +12,9 @@ ghost use Rattle.laws.specs.Refusal.{whenDone};
 ghost use Rattle.plane.specs.Plane.{valueOf};
 ghost use Rattle.plane.specs.Coordinates.{parityOf, unbiased};
 ghost use Rattle.plane.specs.Answer.{sampledNo, sampledValues};
-ghost use Rattle.filter.specs.Filter.{meanOf, gapOf, widerOf, beyondOf, bobOf, heldOf, inMotionOf, acrossOf, scoreOf, slantedOf, betterOf, edgeOf, nearOf, farOf, yadifOf, cubicOf, bwdifOf, madeOf, sampleOf};
-ghost use Rattle.filter.specs.Rows.{weaves, firstRowOr, rowsOf, fieldRowsOf};
+ghost use Rattle.filter.specs.Filter.{meanOf, gapOf, widerOf, beyondOf, bobOf, heldOf, inMotionOf, acrossOf, scoreOf, slantedOf, betterOf, edgeOf, nearOf, farOf, yadifOf, cubicOf, bwdifOf};
+ghost use Rattle.filter.specs.Rows.{qualityNamed, weaves, firstRowOr, rowsOf, goodRows, fieldRowsOf};
+ghost use Rattle.filter.specs.Making.{ofPlanes, madeIn, sampleIn, planesGood, planesAlike, planesWhole};
 ghost use Rattle.filter.specs.Held.{Room, step, seen};
 ghost use Rattle.filter.specs.Answer.{edgedNo, edgedValues, edgeNo, sampleNo};
 
@@ -29,6 +30,34 @@ pub enum Quality {
 pub struct Rows {
     pub first: u32,
     pub mate: u32,
+}
+
+// What a plane is made by. The three shapes are those of its planes.
+pub struct Making {
+    pub quality: Quality,
+    pub rows: Rows,
+    pub before: plane::Shape,
+    pub cur: plane::Shape,
+    pub after: plane::Shape,
+}
+
+impl Quality {
+    // 0 Weave, 1 Bob, 2 Yadif, 3 Bwdif. Callers refuse a code above 3.
+    pub fn named(code: u8) -> Quality
+        ensures { λ r. ⌜ r ≡ qualityNamed code ⌝ }
+    {
+        if code == 0 {
+            return Quality::Weave;
+        }
+        if code == 1 {
+            return Quality::Bob;
+        }
+        if code == 2 {
+            Quality::Yadif
+        } else {
+            Quality::Bwdif
+        }
+    }
 }
 
 // A row is even or odd, so 2 is none.
@@ -75,7 +104,7 @@ pub enum Edged {
 // does not spoil what is flat.
 const SLANT_BIAS: f32 = 0.002;
 
-fn gap(a: f32, b: f32) -> f32
+pub fn gap(a: f32, b: f32) -> f32
     ensures { λ r. ⌜ r ≡ gapOf a b ⌝ }
 {
     float::abs(a - b)
@@ -94,19 +123,19 @@ fn bob(cur: &[u8], s: plane::Shape, x: u32, y: u32) -> f32
 // is the row. Else the value may lie as far from it as something moved, and in any case far enough to
 // come between the rows above and below.
 
-fn mean(a: f32, b: f32) -> f32
+pub fn mean(a: f32, b: f32) -> f32
     ensures { λ r. ⌜ r ≡ meanOf a b ⌝ }
 {
     (a + b) * 0.5
 }
 
-fn wider(a: f32, b: f32, c: f32) -> f32
+pub fn wider(a: f32, b: f32, c: f32) -> f32
     ensures { λ r. ⌜ r ≡ widerOf a b c ⌝ }
 {
     float::max(gap(a, c), gap(b, c))
 }
 
-fn beyond(v: f32, c: f32, e: f32) -> f32
+pub fn beyond(v: f32, c: f32, e: f32) -> f32
     ensures { λ r. ⌜ r ≡ beyondOf v c e ⌝ }
 {
     let under = float::min(c, e) - v;
@@ -114,7 +143,7 @@ fn beyond(v: f32, c: f32, e: f32) -> f32
     float::max(float::max(under, over), 0.0)
 }
 
-fn hold(along: f32, average: f32, moved: f32) -> f32
+pub fn hold(along: f32, average: f32, moved: f32) -> f32
     ensures { λ r. ⌜ r ≡ heldOf along average moved ⌝ }
 {
     float::clamp(
@@ -125,19 +154,20 @@ fn hold(along: f32, average: f32, moved: f32) -> f32
 }
 
 fn in_motion(
+    making: Making,
     before: &[u8],
-    before_shape: plane::Shape,
     cur: &[u8],
-    cur_shape: plane::Shape,
     after: &[u8],
-    after_shape: plane::Shape,
     x: u32,
     y: u32,
     along: f32,
 ) -> f32
     requires { ⌜ Room y ⌝ }
-    ensures { λ r. ⌜ r ≡ inMotionOf (valueOf (now (before .entry)) «before_shape») (valueOf (now (cur .entry)) «cur_shape») (valueOf (now (after .entry)) «after_shape») (unbiased x) (unbiased y) along ⌝ }
+    ensures { λ r. ⌜ r ≡ ofPlanes inMotionOf making (now (before .entry)) (now (cur .entry)) (now (after .entry)) (unbiased x) (unbiased y) along ⌝ }
 {
+    let before_shape = making.before;
+    let cur_shape = making.cur;
+    let after_shape = making.after;
     let up = y - 1;
     let down = y + 1;
     let earlier = plane::value_at(before, before_shape, x, y);
@@ -252,107 +282,45 @@ fn far(cur: &[u8], s: plane::Shape, x: u32, y: u32, j: u32) -> f32
     plane::value_at(cur, s, x + 3 * j - 6, y - 3) + plane::value_at(cur, s, x + 6 - 3 * j, y + 3)
 }
 
-fn yadif(
-    before: &[u8],
-    before_shape: plane::Shape,
-    cur: &[u8],
-    cur_shape: plane::Shape,
-    after: &[u8],
-    after_shape: plane::Shape,
-    x: u32,
-    y: u32,
-) -> f32
+fn yadif(making: Making, before: &[u8], cur: &[u8], after: &[u8], x: u32, y: u32) -> f32
     requires { ⌜ Room x × Room y ⌝ }
-    ensures { λ r. ⌜ r ≡ yadifOf (valueOf (now (before .entry)) «before_shape») (valueOf (now (cur .entry)) «cur_shape») (valueOf (now (after .entry)) «after_shape») (unbiased x) (unbiased y) ⌝ }
+    ensures { λ r. ⌜ r ≡ ofPlanes yadifOf making (now (before .entry)) (now (cur .entry)) (now (after .entry)) (unbiased x) (unbiased y) ⌝ }
 {
-    let j = edge_at(cur, cur_shape, x, y);
-    let along = near(cur, cur_shape, x, y, j) * 0.5;
-    in_motion(
-        before,
-        before_shape,
-        cur,
-        cur_shape,
-        after,
-        after_shape,
-        x,
-        y,
-        along,
-    )
+    let shape = making.cur;
+    let j = edge_at(cur, shape, x, y);
+    let along = near(cur, shape, x, y, j) * 0.5;
+    in_motion(making, before, cur, after, x, y, along)
 }
 
-fn cubic(near: f32, far: f32) -> f32
+pub fn cubic(near: f32, far: f32) -> f32
     ensures { λ r. ⌜ r ≡ cubicOf near far ⌝ }
 {
     (9.0 * near - far) / 16.0
 }
 
-fn bwdif(
-    before: &[u8],
-    before_shape: plane::Shape,
-    cur: &[u8],
-    cur_shape: plane::Shape,
-    after: &[u8],
-    after_shape: plane::Shape,
-    x: u32,
-    y: u32,
-) -> f32
+fn bwdif(making: Making, before: &[u8], cur: &[u8], after: &[u8], x: u32, y: u32) -> f32
     requires { ⌜ Room x × Room y ⌝ }
-    ensures { λ r. ⌜ r ≡ bwdifOf (valueOf (now (before .entry)) «before_shape») (valueOf (now (cur .entry)) «cur_shape») (valueOf (now (after .entry)) «after_shape») (unbiased x) (unbiased y) ⌝ }
+    ensures { λ r. ⌜ r ≡ ofPlanes bwdifOf making (now (before .entry)) (now (cur .entry)) (now (after .entry)) (unbiased x) (unbiased y) ⌝ }
 {
-    let j = edge_at(cur, cur_shape, x, y);
-    let along = cubic(near(cur, cur_shape, x, y, j), far(cur, cur_shape, x, y, j));
-    in_motion(
-        before,
-        before_shape,
-        cur,
-        cur_shape,
-        after,
-        after_shape,
-        x,
-        y,
-        along,
-    )
+    let shape = making.cur;
+    let j = edge_at(cur, shape, x, y);
+    let along = cubic(near(cur, shape, x, y, j), far(cur, shape, x, y, j));
+    in_motion(making, before, cur, after, x, y, along)
 }
 
 // ---- a sample
 
-fn made(
-    quality: Quality,
-    before: &[u8],
-    before_shape: plane::Shape,
-    cur: &[u8],
-    cur_shape: plane::Shape,
-    after: &[u8],
-    after_shape: plane::Shape,
-    x: u32,
-    y: u32,
-) -> f32
+fn made(making: Making, before: &[u8], cur: &[u8], after: &[u8], x: u32, y: u32) -> f32
     requires { ⌜ Room x × Room y ⌝ }
-    ensures { λ r. ⌜ r ≡ madeOf quality (valueOf (now (before .entry)) «before_shape») (valueOf (now (cur .entry)) «cur_shape») (valueOf (now (after .entry)) «after_shape») (unbiased x) (unbiased y) ⌝ }
+    ensures { λ r. ⌜ r ≡ madeIn making (now (before .entry)) (now (cur .entry)) (now (after .entry)) (unbiased x) (unbiased y) ⌝ }
 {
+    let quality = making.quality;
+    let shape = making.cur;
     match quality {
-        Quality::Weave => plane::value_at(cur, cur_shape, x, y),
-        Quality::Bob => bob(cur, cur_shape, x, y),
-        Quality::Yadif => yadif(
-            before,
-            before_shape,
-            cur,
-            cur_shape,
-            after,
-            after_shape,
-            x,
-            y,
-        ),
-        Quality::Bwdif => bwdif(
-            before,
-            before_shape,
-            cur,
-            cur_shape,
-            after,
-            after_shape,
-            x,
-            y,
-        ),
+        Quality::Weave => plane::value_at(cur, shape, x, y),
+        Quality::Bob => bob(cur, shape, x, y),
+        Quality::Yadif => yadif(making, before, cur, after, x, y),
+        Quality::Bwdif => bwdif(making, before, cur, after, x, y),
     }
 }
 
@@ -369,21 +337,21 @@ fn is_weave(quality: Quality) -> bool
 
 // Of coordinates that are held, and the parity of their row.
 fn sample_at(
-    quality: Quality,
+    making: Making,
     before: &[u8],
-    before_shape: plane::Shape,
     cur: &[u8],
-    cur_shape: plane::Shape,
     after: &[u8],
-    after_shape: plane::Shape,
-    rows: Rows,
     parity: u32,
     x: u32,
     y: u32,
 ) -> f32
     requires { ⌜ Room x × Room y × (parity ≡ parityOf (unbiased y)) ⌝ }
-    ensures { λ r. ⌜ r ≡ sampleOf quality rows (valueOf (now (before .entry)) «before_shape») (valueOf (now (cur .entry)) «cur_shape») (valueOf (now (after .entry)) «after_shape») (unbiased x) (unbiased y) ⌝ }
+    ensures { λ r. ⌜ r ≡ sampleIn making (now (before .entry)) (now (cur .entry)) (now (after .entry)) (unbiased x) (unbiased y) ⌝ }
 {
+    let quality = making.quality;
+    let rows = making.rows;
+    let before_shape = making.before;
+    let cur_shape = making.cur;
     if is_weave(quality) {
         if parity == rows.mate {
             return plane::value_at(before, before_shape, x, y);
@@ -393,17 +361,7 @@ fn sample_at(
     if parity == rows.first {
         return plane::value_at(cur, cur_shape, x, y);
     }
-    made(
-        quality,
-        before,
-        before_shape,
-        cur,
-        cur_shape,
-        after,
-        after_shape,
-        x,
-        y,
-    )
+    made(making, before, cur, after, x, y)
 }
 
 // ---- the two calls
@@ -422,29 +380,62 @@ fn signed(j: u32) -> i32
     }
 }
 
-fn sample_no(
-    rows: Rows,
-    before_shape: plane::Shape,
+pub fn planes_good(making: Making) -> bool
+    ensures { λ r. ⌜ r ≡ planesGood making ⌝ }
+{
+    plane::good_shape(making.before)
+        & plane::good_shape(making.cur)
+        & plane::good_shape(making.after)
+}
+
+pub fn planes_alike(making: Making) -> bool
+    ensures { λ r. ⌜ r ≡ planesAlike making ⌝ }
+{
+    plane::planes_agree(making.cur, making.before) & plane::planes_agree(making.cur, making.after)
+}
+
+pub fn planes_whole(
+    making: Making,
     before_bytes: usize,
-    cur_shape: plane::Shape,
     cur_bytes: usize,
-    after_shape: plane::Shape,
+    after_bytes: usize,
+) -> bool
+    ensures { λ r. ⌜ r ≡ planesWhole making «before_bytes» «cur_bytes» «after_bytes» ⌝ }
+{
+    (plane::plane_bytes(making.before) <= before_bytes)
+        & (plane::plane_bytes(making.cur) <= cur_bytes)
+        & (plane::plane_bytes(making.after) <= after_bytes)
+}
+
+pub fn rows_good(rows: Rows) -> bool
+    ensures { λ r. ⌜ r ≡ goodRows rows ⌝ }
+{
+    (rows.first <= 1) & (rows.mate <= 2)
+}
+
+fn sample_no(
+    making: Making,
+    before_bytes: usize,
+    cur_bytes: usize,
     after_bytes: usize,
     x: i32,
     y: i32,
 ) -> u8
-    ensures { λ r. ⌜ r ≡ sampleNo rows «before_shape» «before_bytes» «cur_shape» «cur_bytes» «after_shape» «after_bytes» x y ⌝ }
+    ensures { λ r. ⌜ r ≡ sampleNo making «before_bytes» «cur_bytes» «after_bytes» x y ⌝ }
 {
-    let inside = (rows.first <= 1) & (rows.mate <= 2) & plane::in_reach(x) & plane::in_reach(y);
-    let good = plane::good_shape(before_shape)
-        & plane::good_shape(cur_shape)
-        & plane::good_shape(after_shape);
-    let agree = plane::planes_agree(cur_shape, before_shape)
-        & plane::planes_agree(cur_shape, after_shape);
-    let enough = (plane::plane_bytes(before_shape) <= before_bytes)
-        & (plane::plane_bytes(cur_shape) <= cur_bytes)
-        & (plane::plane_bytes(after_shape) <= after_bytes);
-    refusal::lowest_of(inside, good, agree, enough, true, true)
+    let rows = making.rows;
+    let inside = rows_good(rows) & plane::in_reach(x) & plane::in_reach(y);
+    let whole = planes_whole(making, before_bytes, cur_bytes, after_bytes);
+    let differ = refusal::test(
+        refusal::DIFFER,
+        planes_alike(making),
+        refusal::test(refusal::SHORT_INPUT, whole, refusal::DONE),
+    );
+    refusal::test(
+        refusal::OUTSIDE,
+        inside,
+        refusal::test(refusal::SHAPE, planes_good(making), differ),
+    )
 }
 
 // How the edge runs at a place of a missing row: the upper row is looked at this far to the right, and
@@ -452,13 +443,15 @@ fn sample_no(
 pub fn edge(cur: &[u8], shape: plane::Shape, x: i32, y: i32) -> Edged
     ensures { λ r. ⌜ (edgedNo r ≡ edgeNo shape (length (now (cur .entry))) x y) × (edgedValues r ≡ whenDone (edgeNo shape (length (now (cur .entry))) x y) (edgeOf (valueOf (now (cur .entry)) shape) x y)) ⌝ }
 {
-    let no = refusal::lowest_of(
+    let whole = plane::plane_bytes(shape) <= cur.len();
+    let no = refusal::test(
+        refusal::OUTSIDE,
         plane::in_reach(x) & plane::in_reach(y),
-        plane::good_shape(shape),
-        true,
-        plane::plane_bytes(shape) <= cur.len(),
-        true,
-        true,
+        refusal::test(
+            refusal::SHAPE,
+            plane::good_shape(shape),
+            refusal::test(refusal::SHORT_INPUT, whole, refusal::DONE),
+        ),
     );
     if no == 0 {
         Edged::Slant(signed(edge_at(cur, shape, plane::biased(x), plane::biased(y))))
@@ -469,40 +462,23 @@ pub fn edge(cur: &[u8], shape: plane::Shape, x: i32, y: i32) -> Edged
 
 // The value at a place, of a picture that shows the rows `rows.first` of `cur`.
 pub fn sample(
-    quality: Quality,
+    making: Making,
     before: &[u8],
-    before_shape: plane::Shape,
     cur: &[u8],
-    cur_shape: plane::Shape,
     after: &[u8],
-    after_shape: plane::Shape,
-    rows: Rows,
     x: i32,
     y: i32,
 ) -> plane::Sampled
-    ensures { λ r. ⌜ (sampledNo r ≡ sampleNo rows «before_shape» (length (now (before .entry))) «cur_shape» (length (now (cur .entry))) «after_shape» (length (now (after .entry))) x y) × (sampledValues r ≡ whenDone (sampleNo rows «before_shape» (length (now (before .entry))) «cur_shape» (length (now (cur .entry))) «after_shape» (length (now (after .entry))) x y) (sampleOf quality rows (valueOf (now (before .entry)) «before_shape») (valueOf (now (cur .entry)) «cur_shape») (valueOf (now (after .entry)) «after_shape») x y)) ⌝ }
+    ensures { λ r. ⌜ sampledNo r ≡ sampleNo making (length (now (before .entry))) (length (now (cur .entry))) (length (now (after .entry))) x y ⌝ }
+    ensures { λ r. ⌜ sampledValues r ≡ whenDone (sampledNo r) (sampleIn making (now (before .entry)) (now (cur .entry)) (now (after .entry)) x y) ⌝ }
 {
-    let no = sample_no(
-        rows,
-        before_shape,
-        before.len(),
-        cur_shape,
-        cur.len(),
-        after_shape,
-        after.len(),
-        x,
-        y,
-    );
+    let no = sample_no(making, before.len(), cur.len(), after.len(), x, y);
     if no == 0 {
         plane::Sampled::Value(sample_at(
-            quality,
+            making,
             before,
-            before_shape,
             cur,
-            cur_shape,
             after,
-            after_shape,
-            rows,
             plane::row_parity(y),
             plane::biased(x),
             plane::biased(y),

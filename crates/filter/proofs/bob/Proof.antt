@@ -1,4 +1,3 @@
--- `filter::bob` meets its contract: the rows are one up and one down.
 use native.Mathlib.Omega.{arith}
 use Rattle.filter.specs.Filter.{bobOf}
 use Rattle.filter.proofs.Offsets.{unbiased-more, unbiased-less}

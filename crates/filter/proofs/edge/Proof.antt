@@ -1,7 +1,6 @@
 use mathlib.Core.Path.{_≡_, sym, ap, _∙_}
-use mathlib.Core.Bool.{true, _&&_}
-use mathlib.Core.List.{[], _∷_}
-use lib.Dec.{leb, lit<}
+use mathlib.Core.Bool.{true}
+use lib.Dec.{lit<}
 use lib.ListN.{length}
 use denote.Ref.{now}
 use mir.Facts.{toZ-ofZ}
@@ -18,32 +17,25 @@ use borrow.Author.Needs.{needs}
 use Rattle.filter.proofs.edge.Statement.{statement}
 use Rattle.filter.proofs.edge.Tie as tie
 
--- the tests of both coordinates, and the call's number
-x-test : (c : tie.After-lowest-of) → c .before .before .before .before .in-reach .result ≡ inReach (c .before .before .before .before .before .before .args .x)
-x-test c = c .before .before .before .before .in-reach .ensures ∙ ap inReach (toZ-ofZ (c .before .before .before .before .before .before .fits .x))
-
-y-test : (c : tie.After-lowest-of) → c .before .before .before .in-reach2 .result ≡ inReach (c .before .before .before .before .before .before .args .y)
-y-test c = c .before .before .before .in-reach2 .ensures ∙ ap inReach (toZ-ofZ (c .before .before .before .before .before .before .fits .y))
-
-number :
-    (c : tie.After-lowest-of) →
-    let a = c .before .before .before .before .before .before .args in
-    c .lowest-of .result ≡ edgeNo (a .shape) (length (now (a .cur))) (a .x) (a .y)
+-- the call's number
+number : (c : tie.After-test3) → let a = c .before .before .before .before .before .before .before .before .args in c .test3 .result ≡ edgeNo (a .shape) (length (now (a .cur))) (a .x) (a .y)
 unfolding lowest
 number c =
-    let a = c .before .before .before .before .before .before .args in
-    c .lowest-of .ensures
-    ∙ (λ i. lowest ((3, x-test c i && y-test c i) ∷ (4, c .before .before .good-shape .ensures i) ∷ (6, leb (c .before .plane-bytes .ensures i) (length (now (a .cur)))) ∷ []))
+    let f = c .before .before .before .before .before .before .before .before .fits in
+    cc (ap inReach (toZ-ofZ (f .x)), ap inReach (toZ-ofZ (f .y)))
 
 -- a call that gets 0 has both coordinates within reach, and holds them
-reach : (c : tie.Then1) → let a = c .before .before .before .before .before .before .before .args in (inReach (a .x) ≡ true) × (inReach (a .y) ≡ true)
+reach : (c : tie.Then1) → let a = c .before .before .before .before .before .before .before .before .before .args in (inReach (a .x) ≡ true) × (inReach (a .y) ≡ true)
 reach c = both-inside _ _ (first-passes 3 _ _ (lit< tt) (sym (number (c .before)) ∙ c .if1 .taken))
 
-x-placed : (c : tie.After-biased2) → Placed (c .before .biased .result) (c .before .before .before .before .before .before .before .before .before .args .x)
-x-placed c = placed (reach (c .before .before) .0) (c .before .biased .ensures) (toZ-ofZ (c .before .before .before .before .before .before .before .before .before .fits .x))
+x-placed : (c : tie.After-biased2) → Placed (c .before .biased .result) (c .before .before .before .before .before .before .before .before .before .before .before .args .x)
+x-placed c = placed (reach (c .before .before) .0) (c .before .biased .ensures) (toZ-ofZ (c .before .before .before .before .before .before .before .before .before .before .before .fits .x))
 
-y-placed : (c : tie.After-biased2) → Placed (c .biased2 .result) (c .before .before .before .before .before .before .before .before .before .args .y)
-y-placed c = placed (reach (c .before .before) .1) (c .biased2 .ensures) (toZ-ofZ (c .before .before .before .before .before .before .before .before .before .fits .y))
+y-placed : (c : tie.After-biased2) → Placed (c .biased2 .result) (c .before .before .before .before .before .before .before .before .before .before .before .args .y)
+y-placed c = placed (reach (c .before .before) .1) (c .biased2 .ensures) (toZ-ofZ (c .before .before .before .before .before .before .before .before .before .before .before .fits .y))
+
+plane-bytes-requires : tie.Need-plane-bytes-requires
+plane-bytes-requires c κs = search needs
 
 in-reach-requires : tie.Need-in-reach-requires
 in-reach-requires c κs = search needs
@@ -54,11 +46,14 @@ in-reach-requires-2 c κs = search needs
 good-shape-requires : tie.Need-good-shape-requires
 good-shape-requires c κs = search needs
 
-plane-bytes-requires : tie.Need-plane-bytes-requires
-plane-bytes-requires c κs = search needs
+test-requires : tie.Need-test-requires
+test-requires c κs = search needs
 
-lowest-of-requires : tie.Need-lowest-of-requires
-lowest-of-requires c κs = search needs
+test-requires-2 : tie.Need-test-requires-2
+test-requires-2 c κs = search needs
+
+test-requires-3 : tie.Need-test-requires-3
+test-requires-3 c κs = search needs
 
 biased-requires : tie.Need-biased-requires
 biased-requires c κs = search needs
@@ -74,7 +69,7 @@ signed-requires c κs = search needs
 
 returns : tie.Need-returns
 returns c =
-    let a = c .before .before .before .before .before .before .before .before .before .before .before .args in
+    let a = c .before .before .before .before .before .before .before .before .before .before .before .before .before .args in
     gives (number (c .before .before .before .before .before)) (c .before .before .before .before .if1 .taken)
     (toZ-ofZ {w = w32} (record { sfits = c .signed .ok }) ∙ c .signed .ensures ∙ c .before .edge-at .ensures .0
     ∙ (λ i. edgeOf (valueOf (now (a .cur)) (a .shape)) (x-placed (c .before .before) .is i) (y-placed (c .before .before) .is i)))
@@ -86,11 +81,13 @@ pub edge-spec : {M : Type 1} → statement M
 edge-spec =
     tie.close
     (tie.spec
+    plane-bytes-requires
     in-reach-requires
     in-reach-requires-2
     good-shape-requires
-    plane-bytes-requires
-    lowest-of-requires
+    test-requires
+    test-requires-2
+    test-requires-3
     biased-requires
     biased-requires-2
     edge-at-requires

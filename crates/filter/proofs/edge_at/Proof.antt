@@ -1,4 +1,3 @@
--- `filter::edge_at` meets its contract: the slants are tried in the order of the definition.
 use mathlib.Core.Path.{_≡_, sym, subst}
 use Prim.Native.Nat.{_≤_}
 use lib.IntN.{ℤ, natAbs}

@@ -1,4 +1,3 @@
--- `filter::in_motion` meets its contract: the rows above and below are one up and one down.
 use native.Mathlib.Omega.{arith}
 use Rattle.filter.proofs.Motion.{joined}
 use Rattle.filter.proofs.Offsets.{unbiased-more, unbiased-less}
@@ -65,7 +64,7 @@ hold-requires c κs = search needs
 
 returns : tie.Need-returns
 returns c =
-    let start = c .before .before .before .before .before .before .before .before .before .before .before .before .before .before .before .before .before .before .before .before in
+    let start = c .before .before .before .before .before .before .before .before .before .before .before .before .before .before .before .before .before .before .before .before .before .before .before in
     let a = start .args in
     joined _ _ _ _ _ (a .along) (unbiased-less (a .y) 1 (omega (arith, start .pre))) (unbiased-more (a .y) 1)
     (c .before .before .before .before .before .before .before .before .before .before .before .before .before .before .before .before .value-at .ensures .0)

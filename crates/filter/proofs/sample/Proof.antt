@@ -1,14 +1,16 @@
-use mathlib.Core.Path.{_≡_, sym, ap, _∙_}
-use mathlib.Core.Bool.{Bool, true, _&&_}
-use lib.Dec.{leb, lit<}
+use mathlib.Core.Path.{_≡_, refl, sym, ap, _∙_}
+use mathlib.Core.Bool.{true, _&&_}
+use mathlib.Core.List.{[], _∷_}
+use lib.Dec.{lit<}
+use lib.Ieee.{Float}
 use lib.ListN.{length}
 use denote.Ref.{now}
 use mir.Facts.{toZ-ofZ}
-use Rattle.laws.proofs.Refusal.{gives, refuses, first-passes}
-use Rattle.plane.specs.Plane.{valueOf}
+use Rattle.laws.proofs.Refusal.{refuses, first-passes}
 use Rattle.plane.specs.Coordinates.{inReach, parityOf, unbiased}
 use Rattle.plane.proofs.Coordinates.{both-inside}
-use Rattle.filter.specs.Filter.{sampleOf}
+use Rattle.filter.specs.Rows.{goodRows}
+use Rattle.filter.specs.Making.{sampleIn}
 use Rattle.filter.specs.Answer.{sampleNo}
 use Rattle.filter.proofs.Places.{Placed, placed}
 use borrow.Author.Needs.{needs}
@@ -19,24 +21,22 @@ use Rattle.filter.proofs.sample.Tie as tie
 number :
     (c : tie.After-sample-no) →
     let a = c .before .before .before .before .args in
-    c .sample-no .result
-    ≡ sampleNo (a .rows) (a .before-shape) (length (now (a .before))) (a .cur-shape) (length (now (a .cur))) (a .after-shape) (length (now (a .after))) (a .x) (a .y)
+    c .sample-no .result ≡ sampleNo (a .making) (length (now (a .before))) (length (now (a .cur))) (length (now (a .after))) (a .x) (a .y)
 number c =
-    let a = c .before .before .before .before .args in
-    let f = c .before .before .before .before .fits in
+    let start = c .before .before .before .before in
+    let a = start .args in
     c .sample-no .ensures
     ∙ (λ i.
-    sampleNo (a .rows) (a .before-shape) (length (now (a .before))) (a .cur-shape) (length (now (a .cur))) (a .after-shape) (length (now (a .after)))
-    (toZ-ofZ (f .x) i) (toZ-ofZ (f .y) i))
-
-last-two : (a b c d : Bool) → (a && b && c && d) ≡ true → (c ≡ true) × (d ≡ true)
-last-two a b c d h = (both-inside (a && b) c (both-inside (a && b && c) d h .0) .1, both-inside (a && b && c) d h .1)
+    sampleNo (a .making) (length (now (a .before))) (length (now (a .cur))) (length (now (a .after))) (toZ-ofZ (start .fits .x) i) (toZ-ofZ (start .fits .y) i))
 
 -- a call that gets 0 has both coordinates within reach, and holds them
 reach : (c : tie.Then1) → let a = c .before .before .before .before .before .args in (inReach (a .x) ≡ true) × (inReach (a .y) ≡ true)
 reach c =
     let a = c .before .before .before .before .before .args in
-    last-two (leb (a .rows .first) 1) (leb (a .rows .mate) 2) (inReach (a .x)) (inReach (a .y)) (first-passes 3 _ _ (lit< tt) (sym (number (c .before)) ∙ c .if1 .taken))
+    let both =
+    both-inside (goodRows (a .making .rows) && inReach (a .x)) (inReach (a .y)) (first-passes 3 _ _ (lit< tt) (sym (number (c .before)) ∙ c .if1 .taken))
+    in
+    (both-inside (goodRows (a .making .rows)) (inReach (a .x)) (both .0) .1, both .1)
 
 x-placed : (c : tie.After-biased2) → Placed (c .before .biased .result) (c .before .before .before .before .before .before .before .before .args .x)
 x-placed c =
@@ -67,15 +67,16 @@ sample-at-requires c κs = (x-placed c .room, y-placed c .room, parity c)
 
 returns : tie.Need-returns
 returns c =
-    let a = c .before .before .before .before .before .before .before .before .before .args in
-    gives (number (c .before .before .before .before .before)) (c .before .before .before .before .if1 .taken)
-    (c .sample-at .ensures
-    ∙ (λ i.
-    sampleOf (a .quality) (a .rows) (valueOf (now (a .before)) (a .before-shape)) (valueOf (now (a .cur)) (a .cur-shape))
-    (valueOf (now (a .after)) (a .after-shape)) (x-placed (c .before) .is i) (y-placed (c .before) .is i)))
+    let a = c .before .before .before .before .before .before .before .before .before .args in (
+      sym (c .before .before .before .before .if1 .taken) ∙ number (c .before .before .before .before .before),
+      ap (λ (v : Float). v ∷ [])
+          (c .sample-at .ensures
+          ∙ (λ i.
+          sampleIn (a .making) (now (a .before)) (now (a .cur)) (now (a .after)) (x-placed (c .before) .is i) (y-placed (c .before) .is i))),
+    )
 
 returns-2 : tie.Need-returns-2
-returns-2 c = refuses _ (number (c .before)) (c .if1 .left)
+returns-2 c = (number (c .before), refuses _ refl (c .if1 .left) .1)
 
 pub sample-spec : {M : Type 1} → statement M
 sample-spec =

@@ -1,8 +1,4 @@
--- `filter::sample_no` meets its contract: each test is its definition.
-use mathlib.Core.Path.{_≡_, ap, _∙_}
-use mathlib.Core.Bool.{_&&_}
-use mathlib.Core.List.{[], _∷_}
-use lib.Dec.{leb}
+use mathlib.Core.Path.{ap}
 use mir.Facts.{toZ-ofZ}
 use Rattle.laws.specs.Refusal.{lowest}
 use Rattle.plane.specs.Coordinates.{inReach}
@@ -10,12 +6,8 @@ use borrow.Author.Needs.{needs}
 use Rattle.filter.proofs.sample_no.Statement.{statement}
 use Rattle.filter.proofs.sample_no.Tie as tie
 
--- the tests of both coordinates
-x-test : (c : tie.After-in-reach2) → c .before .in-reach .result ≡ inReach (c .before .before .before .before .args .x)
-x-test c = c .before .in-reach .ensures ∙ ap inReach (toZ-ofZ (c .before .before .before .before .fits .x))
-
-y-test : (c : tie.After-in-reach2) → c .in-reach2 .result ≡ inReach (c .before .before .before .before .args .y)
-y-test c = c .in-reach2 .ensures ∙ ap inReach (toZ-ofZ (c .before .before .before .before .fits .y))
+rows-good-requires : tie.Need-rows-good-requires
+rows-good-requires c κs = search needs
 
 in-reach-requires : tie.Need-in-reach-requires
 in-reach-requires c κs = search needs
@@ -23,70 +15,45 @@ in-reach-requires c κs = search needs
 in-reach-requires-2 : tie.Need-in-reach-requires-2
 in-reach-requires-2 c κs = search needs
 
-good-shape-requires : tie.Need-good-shape-requires
-good-shape-requires c κs = search needs
+planes-whole-requires : tie.Need-planes-whole-requires
+planes-whole-requires c κs = search needs
 
-good-shape-requires-2 : tie.Need-good-shape-requires-2
-good-shape-requires-2 c κs = search needs
+planes-alike-requires : tie.Need-planes-alike-requires
+planes-alike-requires c κs = search needs
 
-good-shape-requires-3 : tie.Need-good-shape-requires-3
-good-shape-requires-3 c κs = search needs
+test-requires : tie.Need-test-requires
+test-requires c κs = search needs
 
-planes-agree-requires : tie.Need-planes-agree-requires
-planes-agree-requires c κs = search needs
+test-requires-2 : tie.Need-test-requires-2
+test-requires-2 c κs = search needs
 
-planes-agree-requires-2 : tie.Need-planes-agree-requires-2
-planes-agree-requires-2 c κs = search needs
+planes-good-requires : tie.Need-planes-good-requires
+planes-good-requires c κs = search needs
 
-plane-bytes-requires : tie.Need-plane-bytes-requires
-plane-bytes-requires c κs = search needs
+test-requires-3 : tie.Need-test-requires-3
+test-requires-3 c κs = search needs
 
-plane-bytes-requires-2 : tie.Need-plane-bytes-requires-2
-plane-bytes-requires-2 c κs = search needs
-
-plane-bytes-requires-3 : tie.Need-plane-bytes-requires-3
-plane-bytes-requires-3 c κs = search needs
-
-lowest-of-requires : tie.Need-lowest-of-requires
-lowest-of-requires c κs = search needs
+test-requires-4 : tie.Need-test-requires-4
+test-requires-4 c κs = search needs
 
 returns : tie.Need-returns
 unfolding lowest
 returns c =
-    let tested = c .before .before .before .before .before .before .before .before .before in
-    let a = tested .before .before .before .before .args in
-    c .lowest-of .ensures
-    ∙ (λ i.
-    lowest
-    ((3, leb (a .rows .first) 1 && leb (a .rows .mate) 2 && x-test tested i && y-test tested i)
-    ∷ (
-      4,
-      c .before .before .before .before .before .before .before .before .good-shape .ensures i
-          && c .before .before .before .before .before .before .before .good-shape2 .ensures i
-          && c .before .before .before .before .before .before .good-shape3 .ensures i,
-    )
-    ∷ (5, c .before .before .before .before .before .planes-agree .ensures i && c .before .before .before .before .planes-agree2 .ensures i)
-    ∷ (
-      6,
-      leb (c .before .before .before .plane-bytes .ensures i) (a .before-bytes)
-          && leb (c .before .before .plane-bytes2 .ensures i) (a .cur-bytes)
-          && leb (c .before .plane-bytes3 .ensures i) (a .after-bytes),
-    )
-    ∷ []))
+    let start = c .before .before .before .before .before .before .before .before .before .before .before in
+    cc (ap inReach (toZ-ofZ (start .fits .x)), ap inReach (toZ-ofZ (start .fits .y)))
 
 pub sample-no-spec : {M : Type 1} → statement M
 sample-no-spec =
     tie.close
     (tie.spec
+    rows-good-requires
     in-reach-requires
     in-reach-requires-2
-    good-shape-requires
-    good-shape-requires-2
-    good-shape-requires-3
-    planes-agree-requires
-    planes-agree-requires-2
-    plane-bytes-requires
-    plane-bytes-requires-2
-    plane-bytes-requires-3
-    lowest-of-requires
+    planes-whole-requires
+    planes-alike-requires
+    test-requires
+    test-requires-2
+    planes-good-requires
+    test-requires-3
+    test-requires-4
     returns)
