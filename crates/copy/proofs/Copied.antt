@@ -1,12 +1,13 @@
 -- A list that is written from the front with another, block by block.
-use Prim.Native.Nat.{ℕ, _+_, _-_, _≤_, min}
+use Prim.Native.Nat.{ℕ, _+_, _-_, _*_, _≤_, min}
 use mathlib.Core.Path.{_≡_, refl, sym, ap, _∙_}
-use mathlib.Core.List.{List, _++_, append-assoc}
+use mathlib.Core.List.{List, [], _∷_, _++_, append-assoc}
 use native.Mathlib.Nat.{le-antisymm}
 use native.Mathlib.Omega.{arith}
-use lib.ListN.{length, take, drop, length-append, length-take, length-drop}
+use lib.ListN.{length, take, drop, getD, length-append, length-take, length-drop}
 use lib.Seq.{take-add, drop-drop, take-at, drop-at, length-take-le, take-all, take-take}
-use Rattle.laws.specs.Rows.{over}
+use Rattle.laws.specs.Rows.{laid, over}
+use Rattle.laws.proofs.Lists.{listed-again, laid-singles}
 use Rattle.laws.proofs.Rows.{over-all}
 
 -- `new`, which was `old`, has the first x of src's n bytes, and behind them what it had
@@ -33,6 +34,17 @@ pub copied-all : {A : Type 0} (old src : List A) → length old ≡ length src �
 copied-all old src e =
     let all : take (length old) src ≡ src = take-all (length old) src (omega arith) in
     rw all (over-all src old e)
+
+-- and, row by row, of one that n rows of one byte fill
+pub copy-lays :
+    {A : Type 0} (old row : List A) (n : ℕ) (d : A) → length old ≡ n * 1 → length row ≡ n * 1 →
+    over (take (length old) (take (n - 0) row)) old ≡ laid n (λ x. getD row x d ∷ [])
+copy-lays {A} old row n d e r =
+    let long : n ≡ length row = omega arith in
+    ap (λ (part : List A). over (take (length old) part) old) (take-all (n - 0) row (omega arith))
+    ∙ copied-all old row (e ∙ sym r)
+    ∙ sym (listed-again row n d long)
+    ∙ sym (laid-singles n (λ x. getD row x d))
 
 -- and of a part of a list, given as long a part of another
 pub copied-part :

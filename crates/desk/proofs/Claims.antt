@@ -29,7 +29,7 @@ edge-says n bytes x y = lowest-says _ tt
 
 pub sample-says : SampleSays
 unfolding rising
-sample-says quality rows before before-bytes cur cur-bytes after after-bytes x y = lowest-says _ tt
+sample-says quality rows before cur after before-bytes cur-bytes after-bytes x y = lowest-says _ tt
 
 pub plane-says : PlaneSays
 unfolding rising

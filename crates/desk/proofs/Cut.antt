@@ -1,11 +1,8 @@
--- The code holds shapes whose numbers are cut to their places (`cut` of specs/Inner.antt). Nothing changes by it: a cut shape is within the bounds
--- exactly when the shape as given is, and then the two are one. Before 4, which is so judged alike, no call reads a size.
+-- The code holds shapes whose numbers are cut to their places (crate `numbers`). No call's answer changes by it.
 use Prim.Native.Nat.{ℕ, _≤_, _<_, min}
 use mathlib.Core.Path.{_≡_, refl, sym, ap, subst}
 use mathlib.Core.Bool.{Bool, true, false, _&&_}
 use mathlib.Core.List.{List, [], _∷_}
-use native.Mathlib.Omega.{arith}
-use borrow.Author.Tests.{leb-true, le-leb}
 use lib.Dec.{leb, lit<}
 use lib.IntN.{ℤ}
 use Rattle.laws.specs.Refusal.{lowest, written}
@@ -14,44 +11,15 @@ use Rattle.plane.specs.declared.Shape.{Shape}
 use Rattle.plane.specs.declared.Layout.the-variants.{Planar}
 use Rattle.plane.specs.Plane.{goodShape}
 use Rattle.plane.specs.Answer.{readTests}
-use Rattle.plane.proofs.Bounds.{good-within}
 use Rattle.plane.proofs.Coordinates.{both-inside}
-use Rattle.filter.specs.declared.Rows.{Rows}
-use Rattle.filter.specs.Answer.{sampleTests}
+use Rattle.filter.specs.declared.Making.{Making}
+use Rattle.filter.specs.Making.{planesGood}
+use Rattle.filter.specs.Answer.{planesTests, sampleTests}
 use Rattle.fill.specs.Fill.{planeTests}
 use Rattle.comb.specs.Answer.{combTests, combNo, rgbaNo}
-use Rattle.desk.specs.Inner.{cut}
-
--- ---- one shape
--- a number whose cut value is within the bounds is not cut
-fits : (s : Shape) → min (s .width) 65535 ≤ 8192 → min (s .height) 65535 ≤ 4352 → min (s .depth) 255 ≤ 16 → cut s ≡ s
-fits s w h d =
-    let width : min (s .width) 65535 ≡ s .width = omega arith in
-    let height : min (s .height) 65535 ≡ s .height = omega arith in
-    let depth : min (s .depth) 255 ≡ s .depth = omega arith in
-    λ i. record { width = width i; height = height i; depth = depth i; stride = s .stride; layout = s .layout }
-
-cut-fits : (s : Shape) → goodShape (cut s) ≡ true → cut s ≡ s
-cut-fits s g = let b = good-within (cut s) g in fits s (b .width-most) (b .height-most) (b .depth-most)
-
-pub cut-same : (s : Shape) → goodShape s ≡ true → cut s ≡ s
-cut-same s g =
-    let b = good-within s g in
-    let w : s .width ≤ 8192 = b .width-most in
-    let h : s .height ≤ 4352 = b .height-most in
-    let d : s .depth ≤ 16 = b .depth-most in
-    fits s (omega arith) (omega arith) (omega arith)
-
--- verdicts of which each follows from the other are one
-one-verdict : (a b : Bool) → (a ≡ true → b ≡ true) → (b ≡ true → a ≡ true) → a ≡ b
-one-verdict true b there back = sym (there refl)
-one-verdict false true there back = back refl
-one-verdict false false there back = refl
-
-pub cut-good : (s : Shape) → goodShape (cut s) ≡ goodShape s
-cut-good s =
-    one-verdict (goodShape (cut s)) (goodShape s) (λ g. subst (λ (t : Shape). goodShape t ≡ true) (cut-fits s g) g)
-    (λ g. subst (λ (t : Shape). goodShape t ≡ true) (sym (cut-same s g)) g)
+use Rattle.numbers.specs.Inner.{cut}
+use Rattle.numbers.proofs.Cut.{cut-same, cut-good, least, most, uncut}
+use Rattle.desk.specs.Inner.{cutPlanes}
 
 -- the tests behind the first
 abbrev behind : List (ℕ × Bool) → List (ℕ × Bool)
@@ -75,64 +43,47 @@ module _ (layout coordinates : Bool) (s : Shape) (bytes : ℕ) where
   read-value value old = written-alike (readNo s) old (λ z. ap value (cut-same s (read-good z)))
 
 -- ---- three planes, of which 4 is judged together
-module _ (before cur after : Shape) where
-  abbrev threeGood : Bool
-  threeGood = goodShape before && goodShape cur && goodShape after
+module _ (m : Making) where
+  planes-good : planesGood (cutPlanes m) ≡ planesGood m
+  planes-good i = cut-good (m .before) i && cut-good (m .cur) i && cut-good (m .after) i
 
-  three-good : (goodShape (cut before) && goodShape (cut cur) && goodShape (cut after)) ≡ threeGood
-  three-good i = cut-good before i && cut-good cur i && cut-good after i
+  planes-same : planesGood m ≡ true → cutPlanes m ≡ m
+  planes-same g =
+      let first = both-inside (goodShape (m .before) && goodShape (m .cur)) (goodShape (m .after)) g in
+      let second = both-inside (goodShape (m .before)) (goodShape (m .cur)) (first .0) in
+      λ i. record {
+        quality = m .quality;
+        rows = m .rows;
+        before = cut-same (m .before) (second .0) i;
+        cur = cut-same (m .cur) (second .1) i;
+        after = cut-same (m .after) (first .1) i;
+      }
 
-  three-same : threeGood ≡ true → (cut before ≡ before) × (cut cur ≡ cur) × (cut after ≡ after)
-  three-same g =
-      let first = both-inside (goodShape before && goodShape cur) (goodShape after) g in
-      let second = both-inside (goodShape before) (goodShape cur) (first .0) in
-      (cut-same before (second .0), cut-same cur (second .1), cut-same after (first .1))
+  module _ (named : Bool) (before cur after : ℕ) (x y : ℤ) where
+    abbrev sampleNo : Making → ℕ
+    sampleNo making = lowest ((3, named) ∷ sampleTests making before cur after x y)
 
-  module _ (named : Bool) (rows : Rows) (before-bytes cur-bytes after-bytes : ℕ) (x y : ℤ) where
-    abbrev sampleNo : Shape → Shape → Shape → ℕ
-    sampleNo b c a = lowest ((3, named) ∷ sampleTests rows b before-bytes c cur-bytes a after-bytes x y)
-
-    pub sample-number : sampleNo (cut before) (cut cur) (cut after) ≡ sampleNo before cur after
+    pub sample-number : sampleNo (cutPlanes m) ≡ sampleNo m
     sample-number =
         lowest-behind 3 named _ _
-        (lowest-behind 3 _ _ _
-        (lowest-alike 4 _ _ three-good
-        (λ g. λ i.
-        lowest (behind (sampleTests rows (three-same g .0 i) before-bytes (three-same g .1 i) cur-bytes (three-same g .2 i) after-bytes x y)))))
+        (lowest-behind 3 _ _ _ (lowest-alike 4 _ _ planes-good (λ g. ap (λ (making : Making). lowest (planesTests making before cur after)) (planes-same g))))
 
-    sample-same : sampleNo before cur after ≡ 0 → (cut before ≡ before) × (cut cur ≡ cur) × (cut after ≡ after)
-    sample-same z = three-same (first-passes 4 _ _ (lit< tt) (rest-passes 3 _ _ (lit< tt) (rest-passes 3 _ _ (lit< tt) z)))
+    pub sample-same : sampleNo m ≡ 0 → cutPlanes m ≡ m
+    sample-same z = planes-same (first-passes 4 _ _ (lit< tt) (rest-passes 3 _ _ (lit< tt) (rest-passes 3 _ _ (lit< tt) z)))
 
-    pub sample-value :
-        {A : Type 0} (value : Shape → Shape → Shape → A) (old : A) →
-        written (sampleNo before cur after) (value (cut before) (cut cur) (cut after)) old ≡ written (sampleNo before cur after) (value before cur after) old
-    sample-value value old =
-        written-alike (sampleNo before cur after) old
-        (λ z.
-        let same = sample-same z in
-        λ i. value (same .0 i) (same .1 i) (same .2 i))
+  module _ (named : Bool) (before cur after room : ℕ) where
+    abbrev planeNo : Making → ℕ
+    planeNo making = lowest ((3, named) ∷ planeTests (making .before) before (making .cur) cur (making .after) after room)
 
-  module _ (named : Bool) (before-bytes cur-bytes after-bytes room : ℕ) where
-    abbrev planeNo : Shape → Shape → Shape → ℕ
-    planeNo b c a = lowest ((3, named) ∷ planeTests b before-bytes c cur-bytes a after-bytes room)
-
-    pub plane-number : planeNo (cut before) (cut cur) (cut after) ≡ planeNo before cur after
+    pub plane-number : planeNo (cutPlanes m) ≡ planeNo m
     plane-number =
         lowest-behind 3 named _ _
-        (lowest-alike 4 _ _ three-good
-        (λ g. λ i. lowest (planeTests (three-same g .0 i) before-bytes (three-same g .1 i) cur-bytes (three-same g .2 i) after-bytes room)))
+        (lowest-alike 4 _ _ planes-good
+        (λ g. ap (λ (making : Making). lowest (planeTests (making .before) before (making .cur) cur (making .after) after room)) (planes-same g)))
 
-    plane-same : planeNo before cur after ≡ 0 → (cut before ≡ before) × (cut cur ≡ cur) × (cut after ≡ after)
-    plane-same z = three-same (first-passes 4 _ _ (lit< tt) (rest-passes 3 _ _ (lit< tt) z))
-
-    pub plane-value :
-        {A : Type 0} (value : Shape → Shape → Shape → A) (old : A) →
-        written (planeNo before cur after) (value (cut before) (cut cur) (cut after)) old ≡ written (planeNo before cur after) (value before cur after) old
+    pub plane-value : {A : Type 0} (value : Making → A) (old : A) → written (planeNo m) (value (cutPlanes m)) old ≡ written (planeNo m) (value m) old
     plane-value value old =
-        written-alike (planeNo before cur after) old
-        (λ z.
-        let same = plane-same z in
-        λ i. value (same .0 i) (same .1 i) (same .2 i))
+        written-alike (planeNo m) old (λ z. ap value (planes-same (first-passes 4 _ _ (lit< tt) (rest-passes 3 _ _ (lit< tt) z))))
 
 -- ---- comb, which takes four numbers of a planar shape
 module _ (width height depth stride bytes : ℕ) where
@@ -153,19 +104,6 @@ module _ (width height depth stride bytes : ℕ) where
       (λ z. ap (λ (s : Shape). value (s .width) (s .height) (s .depth)) (cut-same planar (first-passes 4 _ _ (lit< tt) z)))
 
 -- ---- and of an RGBA picture two
-least : (n : ℕ) → leb 1 (min n 65535) ≡ leb 1 n
-least n =
-    one-verdict (leb 1 (min n 65535)) (leb 1 n) (λ g. le-leb 1 n (omega (arith, leb-true 1 (min n 65535) g)))
-    (λ g. le-leb 1 (min n 65535) (omega (arith, leb-true 1 n g)))
-
-most : (n k : ℕ) → k < 65535 → leb (min n 65535) k ≡ leb n k
-most n k small =
-    one-verdict (leb (min n 65535) k) (leb n k) (λ g. le-leb n k (omega (arith, small, leb-true (min n 65535) k g)))
-    (λ g. le-leb (min n 65535) k (omega (arith, leb-true n k g)))
-
-uncut : (n k : ℕ) → k < 65535 → leb n k ≡ true → min n 65535 ≡ n
-uncut n k small g = omega (arith, small, leb-true n k g)
-
 module _ (width height bytes : ℕ) where
   abbrev sizesGood : ℕ → ℕ → Bool
   sizesGood w h = leb 1 w && leb w 8192 && leb 1 h && leb h 4352

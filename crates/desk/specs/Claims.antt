@@ -9,7 +9,7 @@ use Rattle.filter.specs.declared.Rows.{Rows}
 use Rattle.colour.specs.declared.Conversion.{Conversion}
 use Rattle.colour.specs.Answer.{toRgbTests}
 use Rattle.comb.specs.Answer.{combTests, rgbaTests}
-use Rattle.desk.specs.declared.planes.PlaneNumbers.{PlaneNumbers}
+use Rattle.numbers.specs.declared.PlaneNumbers.{PlaneNumbers}
 use Rattle.desk.specs.Fields.{firstFieldTests}
 use Rattle.desk.specs.Planes.{codeTests, atTests}
 use Rattle.desk.specs.Filters.{edgeTests, sampleTests, planeTests}
@@ -35,8 +35,8 @@ EdgeSays = (n : PlaneNumbers) (bytes : ℕ) (x y : ℤ) → Says (edgeTests n by
 
 abbrev pub SampleSays : Type 0
 SampleSays =
-    (quality : ℕ) (rows : Rows) (before : PlaneNumbers) (before-bytes : ℕ) (cur : PlaneNumbers) (cur-bytes : ℕ) (after : PlaneNumbers) (after-bytes : ℕ)
-    (x y : ℤ) → Says (sampleTests quality rows before before-bytes cur cur-bytes after after-bytes x y)
+    (quality : ℕ) (rows : Rows) (before cur after : PlaneNumbers) (before-bytes cur-bytes after-bytes : ℕ) (x y : ℤ) →
+    Says (sampleTests quality rows before cur after before-bytes cur-bytes after-bytes x y)
 
 abbrev pub PlaneSays : Type 0
 PlaneSays =

@@ -1,24 +1,13 @@
--- Planes by number (docs/RULES.md, "Planes", "What the desk gets back"): the shape that five numbers name, which need not fit a `Shape` of the
--- code, and what the reads of one sample give.
+-- The reads of one sample, by number (docs/RULES.md, "Planes", "What the desk gets back").
 use Prim.Native.Nat.{ℕ}
-use mathlib.Core.Bool.{Bool, cond}
-use mathlib.Core.List.{List, [], _∷_}
-use lib.Dec.{leb, eqb}
+use mathlib.Core.Bool.{Bool}
+use mathlib.Core.List.{List, _∷_}
+use lib.Dec.{leb}
 use lib.IntN.{ℤ}
 use Rattle.laws.specs.Refusal.{lowest}
-use Rattle.plane.specs.declared.Shape.{Shape}
-use Rattle.plane.specs.declared.Layout.{Layout}
-use Rattle.plane.specs.declared.Layout.the-variants.{Planar, Luma, First, Second}
 use Rattle.plane.specs.Answer.{codeTests as planeCodeTests, atTests as planeAtTests}
-use Rattle.desk.specs.declared.planes.PlaneNumbers.{PlaneNumbers}
-
--- 0 planar, 1 the luma of a biplanar frame, 2 and 3 the first and the second of two shared components; another code names nothing
-abbrev pub layoutNamed : ℕ → Layout
-layoutNamed code = cond (eqb code 0) Planar (cond (eqb code 1) Luma (cond (eqb code 2) First Second))
-
--- The shape as the numbers give it, however large they are.
-abbrev pub shapeNamed : PlaneNumbers → Shape
-shapeNamed n = record { width = n .width; height = n .height; depth = n .depth; stride = n .stride; layout = layoutNamed (n .layout) }
+use Rattle.numbers.specs.declared.PlaneNumbers.{PlaneNumbers}
+use Rattle.numbers.specs.Numbers.{shapeNamed}
 
 -- 3 also where the layout's code names nothing
 abbrev pub named : ℕ → List (ℕ × Bool) → List (ℕ × Bool)

@@ -1,6 +1,4 @@
-// Comb by number. A number too large for its place counts as the largest there, which is out of bounds
-// too, so that no answer changes by it.
-use crate::planes;
+// Comb by number.
 ghost use mathlib.Core.Path.{_≡_};
 ghost use lib.ListN.{length};
 ghost use Rattle.laws.specs.Refusal.{written};
@@ -20,9 +18,9 @@ pub extern "C" fn desk_comb(
     ensures { λ r. ⌜ r ≡ combNo width height depth stride (length (now (plane .entry))) ⌝ }
     ensures { λ _. ⌜ now (total .exit) ≡ written (combNo width height depth stride (length (now (plane .entry)))) (planeComb (now (plane .entry)) width height depth stride) (now (total .entry)) ⌝ }
 {
-    let columns = planes::at_most_65535(width);
-    let rows = planes::at_most_65535(height);
-    let bits = planes::at_most_255(depth);
+    let columns = numbers::at_most_65535(width);
+    let rows = numbers::at_most_65535(height);
+    let bits = numbers::at_most_255(depth);
     match comb::comb(plane, columns, rows, bits, stride) {
         comb::Combed::Value(found) => {
             *total = found;
@@ -38,8 +36,8 @@ pub extern "C" fn desk_comb_rgba(rgba: &[u8], width: u32, height: u32, total: &m
     ensures { λ r. ⌜ r ≡ rgbaNo width height (length (now (rgba .entry))) ⌝ }
     ensures { λ _. ⌜ now (total .exit) ≡ written (rgbaNo width height (length (now (rgba .entry)))) (rgbaComb (now (rgba .entry)) width height) (now (total .entry)) ⌝ }
 {
-    let columns = planes::at_most_65535(width);
-    let rows = planes::at_most_65535(height);
+    let columns = numbers::at_most_65535(width);
+    let rows = numbers::at_most_65535(height);
     match comb::comb_rgba(rgba, columns, rows) {
         comb::Combed::Value(green) => {
             *total = green;

@@ -1,31 +1,14 @@
 // The rows a field lacks, by number.
-use crate::planes;
-use crate::planes::PlaneNumbers;
+use numbers::PlaneNumbers;
 ghost use mathlib.Core.Path.{_≡_};
 ghost use lib.ListN.{length};
 ghost use Rattle.laws.specs.Refusal.{written};
 ghost use Rattle.laws.specs.Rows.{over};
 ghost use Rattle.plane.specs.Plane.{valueOf};
-ghost use Rattle.filter.specs.Filter.{edgeOf, sampleOf};
-ghost use Rattle.desk.specs.Planes.{shapeNamed};
-ghost use Rattle.desk.specs.Filters.{qualityNamed, rowsNamed, edgeNo, sampleNo, planeNo, linesNamed};
-
-// 0 Weave, 1 Bob, 2 Yadif, 3 Bwdif.
-pub fn quality_named(code: u8) -> filter::Quality
-    ensures { λ r. ⌜ r ≡ qualityNamed code ⌝ }
-{
-    if code == 0 {
-        return filter::Quality::Weave;
-    }
-    if code == 1 {
-        return filter::Quality::Bob;
-    }
-    if code == 2 {
-        filter::Quality::Yadif
-    } else {
-        filter::Quality::Bwdif
-    }
-}
+ghost use Rattle.filter.specs.Filter.{edgeOf};
+ghost use Rattle.numbers.specs.Numbers.{shapeNamed};
+ghost use Rattle.desk.specs.Filters.{rowsNamed, makingNamed, edgeNo, sampleNo, sampleNamed, planeNo, linesNamed};
+ghost use Rattle.desk.specs.Inner.{cutPlanes};
 
 // How the edge runs at a place of a missing row, from -2 to 2. Numbers 3, 4 and 6.
 #[no_mangle]
@@ -36,12 +19,31 @@ pub extern "C" fn desk_edge(cur: &[u8], shape: PlaneNumbers, x: i32, y: i32, sla
     if 3 < shape.layout {
         return refusal::OUTSIDE;
     }
-    match filter::edge(cur, planes::shape_named(shape), x, y) {
+    match filter::edge(cur, numbers::shape_named(shape), x, y) {
         filter::Edged::Slant(found) => {
             *slant = found;
             0
         }
         filter::Edged::Refused(no) => no,
+    }
+}
+
+// What the numbers name, with shapes as `numbers` has them.
+fn making_named(
+    quality: u8,
+    rows: filter::Rows,
+    before: PlaneNumbers,
+    cur: PlaneNumbers,
+    after: PlaneNumbers,
+) -> filter::Making
+    ensures { λ r. ⌜ r ≡ cutPlanes (makingNamed quality rows before cur after) ⌝ }
+{
+    filter::Making {
+        quality: filter::Quality::named(quality),
+        rows: rows,
+        before: numbers::shape_named(before),
+        cur: numbers::shape_named(cur),
+        after: numbers::shape_named(after),
     }
 }
 
@@ -62,8 +64,8 @@ pub extern "C" fn desk_sample(
     y: i32,
     value: &mut f32,
 ) -> u8
-    ensures { λ r. ⌜ r ≡ sampleNo quality (rowsNamed first mate) «before_shape» (length (now (before .entry))) «cur_shape» (length (now (cur .entry))) «after_shape» (length (now (after .entry))) x y ⌝ }
-    ensures { λ _. ⌜ now (value .exit) ≡ written (sampleNo quality (rowsNamed first mate) «before_shape» (length (now (before .entry))) «cur_shape» (length (now (cur .entry))) «after_shape» (length (now (after .entry))) x y) (sampleOf (qualityNamed quality) (rowsNamed first mate) (valueOf (now (before .entry)) (shapeNamed «before_shape»)) (valueOf (now (cur .entry)) (shapeNamed «cur_shape»)) (valueOf (now (after .entry)) (shapeNamed «after_shape»)) x y) (now (value .entry)) ⌝ }
+    ensures { λ r. ⌜ r ≡ sampleNo quality (rowsNamed first mate) «before_shape» «cur_shape» «after_shape» (length (now (before .entry))) (length (now (cur .entry))) (length (now (after .entry))) x y ⌝ }
+    ensures { λ r. ⌜ now (value .exit) ≡ written r (sampleNamed quality (rowsNamed first mate) «before_shape» «cur_shape» «after_shape» before cur after x y) (now (value .entry)) ⌝ }
 {
     let named = (quality <= 3)
         & (before_shape.layout <= 3)
@@ -76,18 +78,8 @@ pub extern "C" fn desk_sample(
         first: first,
         mate: mate,
     };
-    match filter::sample(
-        quality_named(quality),
-        before,
-        planes::shape_named(before_shape),
-        cur,
-        planes::shape_named(cur_shape),
-        after,
-        planes::shape_named(after_shape),
-        rows,
-        x,
-        y,
-    ) {
+    let making = making_named(quality, rows, before_shape, cur_shape, after_shape);
+    match filter::sample(making, before, cur, after, x, y) {
         plane::Sampled::Value(found) => {
             *value = found;
             0
@@ -122,13 +114,13 @@ pub extern "C" fn desk_plane(
     }
     fill::plane(
         out,
-        quality_named(quality),
+        filter::Quality::named(quality),
         field::Parity::named(first as u32),
         before,
-        planes::shape_named(before_shape),
+        numbers::shape_named(before_shape),
         cur,
-        planes::shape_named(cur_shape),
+        numbers::shape_named(cur_shape),
         after,
-        planes::shape_named(after_shape),
+        numbers::shape_named(after_shape),
     )
 }

@@ -4,7 +4,6 @@
 // detector in 96 bytes that it lends.
 use block::Counted;
 use block::Counts;
-use desk::planes;
 use field::Chosen;
 use field::Parity;
 use plane::Grid;
@@ -50,9 +49,9 @@ pub struct GridNumbers {
 fn grid_of(numbers: GridNumbers) -> Grid
     ensures { λ r. ⌜ r ≡ gridOf numbers ⌝ }
 {
-    let width = planes::at_most_65535(numbers.width);
-    let height = planes::at_most_65535(numbers.height);
-    let depth = planes::at_most_255(numbers.depth);
+    let width = numbers::at_most_65535(numbers.width);
+    let height = numbers::at_most_65535(numbers.height);
+    let depth = numbers::at_most_255(numbers.depth);
     Grid {
         width: width,
         height: height,

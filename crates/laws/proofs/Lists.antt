@@ -1,15 +1,15 @@
 -- Laws of lists that are given place by place (`listed`) and row by row (`laid`). A loop that writes f 0, f 1, .. keeps `Filled`, and one that
 -- writes row 0, row 1, .. keeps `Stacked`: `fill-starts` and `stack-starts` enter them, `fills` and `stacks` are a turn, `fill-ends` and
 -- `stack-ends` leave them.
-use Prim.Native.Nat.{ℕ, zero, suc, _+_, _-_, _*_, _≤_, _<_}
-use mathlib.Core.Path.{_≡_, refl, sym, ap, ap₂, _∙_}
+use Prim.Native.Nat.{ℕ, zero, suc, _+_, _-_, _*_, _≤_, _<_, min}
+use mathlib.Core.Path.{_≡_, refl, sym, ap, ap₂, subst, _∙_}
 use mathlib.Core.List.{List, [], _∷_, _++_, append-nil, append-assoc}
 use native.Mathlib.Decide.{ℕ-discrete}
-use native.Mathlib.Nat.{zero-mul, suc-mul, mul-le-mul-right, le-trans, le-antisymm}
+use native.Mathlib.Nat.{add-zero, add-suc, zero-mul, suc-mul, one-mul, add-mul, mul-le-mul-right, le-trans, le-antisymm}
 use native.Mathlib.Numerals.{add-one}
 use native.Mathlib.Omega.{arith}
 use lib.ListN.{length, take, drop, getD, set, length-append, length-drop, length-set, drop-of-length-le, List·getD-append}
-use lib.Seq.{ext-getD, drop-cons, set-at, take-at, drop-at, drop-drop, getD-at, getD-append-add, length-take-le, getD-take, getD-drop}
+use lib.Seq.{ext-getD, drop-cons, set-at, sets-eq, take-at, drop-at, drop-drop, getD-at, getD-append-add, length-take-le, getD-take, getD-drop}
 use Rattle.laws.specs.Rows.{listed, laid, over}
 
 -- ---- a list given place by place
@@ -51,11 +51,102 @@ module _ {A : Type 0} where
   pub part-at : (l : List A) (start n x : ℕ) (d : A) → x < n → getD (take n (drop start l)) x d ≡ getD l (start + x) d
   part-at l start n x d h = getD-take n (drop start l) x d h ∙ getD-drop start l x d
 
-  -- rows laid end to end are equal by their rows
+  -- ---- lists one behind the other
+  -- a list written behind another that was written at the front
+  pub over-then :
+      (x y old : List A) (start n : ℕ) → length x ≡ start → length y ≡ n →
+      take start (over x old) ++ (y ++ drop (start + n) (over x old)) ≡ over (x ++ y) old
+  over-then x y old start n e f =
+      let rest = drop (length x) old in
+      let front : take start (x ++ rest) ≡ x = take-at x rest start e in
+      let both : length (x ++ y) ≡ length x + n = length-append x y ∙ ap (λ (k : ℕ). length x + k) f in
+      let back : drop (start + n) (x ++ rest) ≡ drop (length (x ++ y)) old =
+      sym (drop-drop n start (x ++ rest))
+      ∙ ap (λ (l : List A). drop n l) (drop-at x rest start e)
+      ∙ drop-drop n (length x) old
+      ∙ ap (λ (k : ℕ). drop k old) (sym both) in
+      (λ i. front i ++ (y ++ back i)) ∙ sym (append-assoc x y (drop (length (x ++ y)) old))
+
+  -- what lies behind a part that was lent, in the two ways it is said
+  pub behind-part : (start n : ℕ) (l : List A) → drop (start + n - start) (drop start l) ≡ drop (start + n) l
+  behind-part start n l =
+      let to : start + (start + n - start) ≡ start + n = omega arith in
+      drop-drop (start + n - start) start l ∙ ap (λ (k : ℕ). drop k l) to
+
+  -- three lists and what lies behind them
+  module _ (x y z rest : List A) where
+    abbrev three : List A
+    three = (x ++ (y ++ z)) ++ rest
+
+    in-a-row : three ≡ x ++ (y ++ (z ++ rest))
+    in-a-row = append-assoc x (y ++ z) rest ∙ ap (λ (l : List A). x ++ l) (append-assoc y z rest)
+
+    pub part-one : (a : ℕ) → length x ≡ a → take a three ≡ x
+    part-one a e = ap (λ (l : List A). take a l) in-a-row ∙ take-at x (y ++ (z ++ rest)) a e
+
+    behind-one : (a : ℕ) → length x ≡ a → drop a three ≡ y ++ (z ++ rest)
+    behind-one a e = ap (λ (l : List A). drop a l) in-a-row ∙ drop-at x (y ++ (z ++ rest)) a e
+
+    pub part-two : (a b : ℕ) → length x ≡ a → length y ≡ b → take b (drop a three) ≡ y
+    part-two a b e f = ap (λ (l : List A). take b l) (behind-one a e) ∙ take-at y (z ++ rest) b f
+
+    pub part-three : (a b c : ℕ) → length x ≡ a → length y ≡ b → length z ≡ c → take c (drop (a + b) three) ≡ z
+    part-three a b c e f g =
+        ap (λ (l : List A). take c l)
+        (sym (drop-drop b a three) ∙ ap (λ (l : List A). drop b l) (behind-one a e) ∙ drop-at y (z ++ rest) b f)
+        ∙ take-at z rest c g
+
+  -- two elements written one after the other are a part written, and four are all there is in a list of four
+  two-written : (l : List A) (i : ℕ) (a b : A) → i + 2 ≤ length l → set (set l i a) (i + 1) b ≡ take i l ++ ((a ∷ b ∷ []) ++ drop (i + 2) l)
+  two-written l i a b h =
+      ap (λ (k : ℕ). set (set l i a) k b) (add-one i) ∙ sets-eq (a ∷ b ∷ []) l i h ∙ append-assoc (take i l) (a ∷ b ∷ []) (drop (i + 2) l)
+
+  pub four : (l : List A) (a b c d : A) → length l ≡ 4 → set (set (set (set l 0 a) 1 b) 2 c) 3 d ≡ a ∷ b ∷ c ∷ d ∷ []
+  four [] a b c d e = absurd (omega arith)
+  four (w ∷ []) a b c d e = absurd (omega arith)
+  four (w ∷ x ∷ []) a b c d e = absurd (omega arith)
+  four (w ∷ x ∷ y ∷ []) a b c d e = absurd (omega arith)
+  four (w ∷ x ∷ y ∷ z ∷ []) a b c d e = refl
+  four (w ∷ x ∷ y ∷ z ∷ v ∷ l) a b c d e = absurd (omega arith)
+
+  -- ---- rows laid end to end
+  -- they are equal by their rows
   pub same-laid : (n : ℕ) (f g : ℕ → List A) → ((y : ℕ) → y < n → f y ≡ g y) → laid n f ≡ laid n g
   unfolding laid
   same-laid zero f g h = refl
   same-laid (suc n) f g h = ap₂ (λ (front last : List A). front ++ last) (same-laid n f g (λ y l. h y (omega arith))) (h n (omega arith))
+
+  -- k rows after the first n
+  laid-further : (n k : ℕ) (row : ℕ → List A) → laid (n + k) row ≡ laid n row ++ laid k (λ y. row (n + y))
+  unfolding laid
+  laid-further n zero row = ap (λ (m : ℕ). laid m row) (add-zero n) ∙ sym (append-nil (laid n row))
+  laid-further n (suc k) row =
+      ap (λ (m : ℕ). laid m row) (add-suc n k)
+      ∙ ap (λ (front : List A). front ++ row (n + k)) (laid-further n k row)
+      ∙ append-assoc (laid n row) (laid k (λ y. row (n + y))) (row (n + k))
+
+  -- rows of one element each are a list given place by place
+  pub laid-singles : (n : ℕ) (f : ℕ → A) → laid n (λ x. f x ∷ []) ≡ listed n f
+  unfolding laid listed
+  laid-singles zero f = refl
+  laid-singles (suc n) f = ap (λ (front : List A). front ++ (f n ∷ [])) (laid-singles n f)
+
+-- Rows of which only those up to `last` are known to have one width. With that row in the place of each later one, all have it, as the laws of
+-- rows ask, and nothing that is laid up to there changes.
+module _ {A : Type 0} (row : ℕ → List A) (last : ℕ) where
+  abbrev pub clamped : ℕ → List A
+  clamped y = row (min y last)
+
+  pub clamped-wide : (width : ℕ) → ((y : ℕ) → y ≤ last → length (row y) ≡ width) → (y : ℕ) → length (clamped y) ≡ width
+  clamped-wide width wide y = wide (min y last) (omega arith)
+
+  pub clamped-row : (y : ℕ) → y ≤ last → clamped y ≡ row y
+  clamped-row y h =
+      let e : min y last ≡ y = omega arith in
+      rw e
+
+  pub clamped-laid : (n : ℕ) → n ≤ suc last → laid n clamped ≡ laid n row
+  clamped-laid n h = same-laid n clamped row (λ y l. clamped-row y (omega arith))
 
 -- ---- rows of one width laid end to end
 module _ {A : Type 0} (row : ℕ → List A) (width : ℕ) (wide : (y : ℕ) → length (row y) ≡ width) where
@@ -81,13 +172,22 @@ module _ {A : Type 0} (row : ℕ → List A) (width : ℕ) (wide : (y : ℕ) →
           rw (length-laid n) (omega (arith, suc-mul y width, mul-le-mul-right {m = suc y} {n = n} width below)) in
           List·getD-append (laid n row) (row n) d (y * width + x) inner ∙ earlier below
 
-  -- a row more over the front of a list, and how long the list then is
-  further : (old : List A) (y : ℕ) → laid y row ++ (row y ++ drop width (drop (y * width) old)) ≡ laid (y + 1) row ++ drop ((y + 1) * width) old
+  -- row y, cut out of n rows, with something behind them or nothing
+  pub cut-row : (n y : ℕ) (rest : List A) → y < n → take width (drop (y * width) (laid n row ++ rest)) ≡ row y
   unfolding laid
-  further old y = rw (add-one, drop-drop, ← suc-mul) (sym (append-assoc (laid y row) (row y) (drop (suc y * width) old)))
+  cut-row zero y rest h = absurd (omega arith)
+  cut-row (suc n) y rest h = place (ℕ-discrete y n) (cut-row n y (row n ++ rest))
+    where
+      place :
+          Dec (y ≡ n) → (y < n → take width (drop (y * width) (laid n row ++ (row n ++ rest))) ≡ row y) →
+          take width (drop (y * width) ((laid n row ++ row n) ++ rest)) ≡ row y
+      place (yes e) earlier =
+          rw (e, append-assoc (laid n row) (row n) rest, drop-at (laid n row) (row n ++ rest) (n * width) (length-laid n))
+          (take-at (row n) rest width (wide n))
+      place (no e) earlier = rw (append-assoc (laid n row) (row n) rest) (earlier (omega (arith, e)))
 
-  length-so-far : (old : List A) (y : ℕ) → y * width ≤ length old → length (laid y row ++ drop (y * width) old) ≡ length old
-  length-so-far old y h = rw (length-append, length-laid y, length-drop) (omega arith)
+  pub laid-row : (n y : ℕ) → y < n → take width (drop (y * width) (laid n row)) ≡ row y
+  laid-row n y h = ap (λ (l : List A). take width (drop (y * width) l)) (sym (append-nil (laid n row))) ∙ cut-row n y [] h
 
 -- ---- a list `new` that was `old`, after the first x places are written
 pub record Filled {A : Type 0} (f : ℕ → A) (old new : List A) (x : ℕ) : Type 0 where
@@ -118,36 +218,72 @@ module _ {A : Type 0} {f : ℕ → A} {old : List A} where
       ∙ append-nil (listed x f)
       ∙ ap (λ (k : ℕ). listed k f) (le-antisymm (l .within) h)
 
+  -- rows of one element each
+  pub fill-lays : {n : ℕ} {new : List A} {x : ℕ} → Filled f old new x → n ≤ x → length old ≡ n * 1 → new ≡ laid n (λ x. f x ∷ [])
+  fill-lays {n} l h e =
+      let long : length old ≡ n = omega arith in
+      fill-ends l (omega arith) ∙ ap (λ (k : ℕ). listed k f) long ∙ sym (laid-singles n f)
+
 -- ---- a list `new` that was `old`, after the first y of n rows of one width are written
 pub record Stacked {A : Type 0} (row : ℕ → List A) (width n : ℕ) (old new : List A) (y : ℕ) : Type 0 where
   pub within : y ≤ n
   pub long : length new ≡ length old
-  pub exact : new ≡ laid y row ++ drop (y * width) old
+  pub exact : new ≡ over (laid y row) old
+
+-- k rows more. They come as a part that starts at `start`: a callee says what it leaves of the list, or what it leaves of a loan.
+module _ {A : Type 0} (row : ℕ → List A) (width : ℕ) (wide : (y : ℕ) → length (row y) ≡ width) where
+  put-rows :
+      {n : ℕ} {old new newer : List A} {y : ℕ} (k : ℕ) {part : List A} {start span : ℕ} →
+      Stacked row width n old new y → y + k ≤ n → n * width ≤ length old → start ≡ y * width → span ≡ k * width → part ≡ laid k (λ i. row (y + i)) →
+      newer ≡ take start new ++ (part ++ drop (start + span) new) →
+      Stacked row width n old newer (y + k)
+  put-rows {n} {old} {new} {newer} {y} k {part} {start} {span} s h room at size e put =
+      let front : length (laid y row) ≡ start = length-laid row width wide y ∙ sym at in
+      let rows : length part ≡ span = ap length e ∙ length-laid (λ i. row (y + i)) width (λ i. wide (y + i)) k ∙ sym size in
+      let whole : newer ≡ over (laid (y + k) row) old =
+      put
+      ∙ ap (λ (l : List A). take start l ++ (part ++ drop (start + span) l)) (s .exact)
+      ∙ over-then (laid y row) part old start span front rows
+      ∙ ap (λ (l : List A). over l old) (ap (λ (l : List A). laid y row ++ l) e ∙ sym (laid-further y k row)) in
+      let fits : (y + k) * width ≤ length old = le-trans (mul-le-mul-right {m = y + k} {n = n} width h) room in
+      record { within = h; long = ap length whole ∙ rw (length-append, length-drop, length-laid row width wide (y + k)) (omega arith); exact = whole }
+
+  pub stacks-rows :
+      {n : ℕ} {old new : List A} {y : ℕ} (k : ℕ) {part : List A} {start span : ℕ} →
+      Stacked row width n old new y → y + k ≤ n → n * width ≤ length old → start ≡ y * width → span ≡ k * width → part ≡ laid k (λ i. row (y + i)) →
+      Stacked row width n old (take start new ++ (part ++ drop (start + span - start) (drop start new))) (y + k)
+  stacks-rows {n} {old} {new} {y} k {part} {start} {span} s h room at size e =
+      put-rows k s h room at size e (ap (λ (rest : List A). take start new ++ (part ++ rest)) (behind-part start span new))
 
 module _ {A : Type 0} {row : ℕ → List A} {width n : ℕ} {old : List A} (wide : (y : ℕ) → length (row y) ≡ width) where
   pub stack-starts : Stacked row width n old old 0
   unfolding laid
-  stack-starts = record { within = omega arith; long = refl; exact = rw (zero-mul width) }
+  stack-starts = record { within = omega arith; long = refl; exact = refl }
 
-  -- the row is written through a loan of the part that starts at `start`
+  -- one row more, as k of them
+  pub stacks-part :
+      {new newer part : List A} {y start : ℕ} →
+      Stacked row width n old new y → y < n → n * width ≤ length old → start ≡ y * width → part ≡ row y →
+      newer ≡ take start new ++ (part ++ drop (start + width) new) →
+      Stacked row width n old newer (y + 1)
+  unfolding laid
+  stacks-part {new} {newer} {part} {y} s h room at e put =
+      put-rows row width wide 1 s (omega arith) room at (sym (one-mul width)) (e ∙ ap row (sym (add-zero y))) put
+
   pub stacks :
       {new part : List A} {y start : ℕ} →
       Stacked row width n old new y → y < n → n * width ≤ length old → start ≡ y * width → part ≡ row y →
       Stacked row width n old (take start new ++ (part ++ drop (start + width - start) (drop start new))) (y + 1)
   stacks {new} {part} {y} {start} s h room at e =
-      let front : length (laid y row) ≡ start = length-laid row width wide y ∙ sym at in
-      let span : start + width - start ≡ width = omega arith in
-      let whole : take start new ++ (part ++ drop (start + width - start) (drop start new)) ≡ laid (y + 1) row ++ drop ((y + 1) * width) old =
-      rw (s .exact, span, take-at (laid y row) (drop (y * width) old) start front, drop-at (laid y row) (drop (y * width) old) start front, e)
-      (further row width wide old y) in
-      record {
-        within = omega arith;
-        long = ap length whole ∙ length-so-far row width wide old (y + 1) (le-trans (mul-le-mul-right {m = y + 1} {n = n} width (omega arith)) room);
-        exact = whole;
-      }
+      stacks-part s h room at e (ap (λ (rest : List A). take start new ++ (part ++ rest)) (behind-part start width new))
 
   pub stack-ends : {new : List A} {y : ℕ} → Stacked row width n old new y → n ≤ y → new ≡ over (laid n row) old
-  stack-ends {new} {y} s h =
-      s .exact
-      ∙ ap (λ (k : ℕ). laid k row ++ drop (k * width) old) (le-antisymm (s .within) h)
-      ∙ ap (λ (k : ℕ). laid n row ++ drop k old) (sym (length-laid row width wide n))
+  stack-ends {new} {y} s h = s .exact ∙ ap (λ (k : ℕ). over (laid k row) old) (le-antisymm (s .within) h)
+
+-- rows of two, written element after element
+pub stacks-two :
+    {A : Type 0} {row : ℕ → List A} {n : ℕ} {old new : List A} {y : ℕ} {a b : A} →
+    ((y : ℕ) → length (row y) ≡ 2) → Stacked row 2 n old new y → y < n → n * 2 ≤ length old → a ∷ b ∷ [] ≡ row y →
+    Stacked row 2 n old (set (set new (y * 2) a) (y * 2 + 1) b) (y + 1)
+stacks-two {A} {row} {n} {old} {new} {y} {a} {b} wide s h room e =
+    stacks-part wide s h room refl e (two-written new (y * 2) a b (omega (arith, s .long)))

@@ -4,7 +4,7 @@ use Prim.Native.Nat.{ℕ, _≤_, _<_}
 use mathlib.Core.Path.{_≡_, refl, sym, ap, subst, _∙_}
 use mathlib.Core.Logic.{_⊎_, inl, inr}
 use mathlib.Core.Bool.{Bool, true, false, cond, _&&_, true≢false}
-use mathlib.Core.List.{List, [], _∷_, nil≢cons}
+use mathlib.Core.List.{List, [], _∷_, _++_, nil≢cons}
 use native.Mathlib.Nat.{le-trans, le-antisymm, le-of-eq}
 use native.Mathlib.Omega.{arith}
 use lib.Dec.{T, leb, eqb, leb→le, lit<}
@@ -95,7 +95,20 @@ says tests (inr j) = record {
 pub lowest-of-rising : (tests : List (ℕ × Bool)) → T (rising 1 tests) → Says tests
 lowest-of-rising tests r = says tests (judge 1 tests (lit< tt) r)
 
--- a call that gets 0 passed its first test, and all tests behind it
+-- a call that gets 0 passed every test: `.0` says so of the first, `.1 .0` of the second, and so on
+abbrev pub AllPass : List (ℕ × Bool) → Type 0
+AllPass [] = Unit {0}
+AllPass ((n, passes) ∷ tests) = (passes ≡ true) × AllPass tests
+
+passes-from : (n : ℕ) (tests : List (ℕ × Bool)) → 0 < n → T (rising n tests) → lowest tests ≡ 0 → AllPass tests
+unfolding lowest rising
+passes-from n [] N r z = tt
+passes-from n ((m, true) ∷ tests) N r z = (refl, passes-from m tests (omega (arith, step-up n m tests r)) (rest-rises n m tests r) z)
+passes-from n ((m, false) ∷ tests) N r z = absurd (not-both m z (omega (arith, step-up n m tests r)))
+
+pub all-pass : (tests : List (ℕ × Bool)) → T (rising 1 tests) → lowest tests ≡ 0 → AllPass tests
+all-pass tests r z = passes-from 1 tests (lit< tt) r z
+
 pub first-passes : (n : ℕ) (passes : Bool) (tests : List (ℕ × Bool)) → 0 < n → lowest ((n, passes) ∷ tests) ≡ 0 → passes ≡ true
 unfolding lowest
 first-passes n true tests N e = refl
@@ -199,3 +212,31 @@ written-alike {A} n {new} {new′} old same = settled (eqb n 0) (λ e. same (eqb
     settled : (b : Bool) → (b ≡ true → new ≡ new′) → cond b new old ≡ cond b new′ old
     settled true s = s refl
     settled false s = refl
+
+-- what a callee whose number is 0 wrote
+pub done-wrote : {A : Type 0} {n : ℕ} {got : A} (new old : A) → n ≡ 0 → got ≡ written n new old → got ≡ new
+done-wrote {A} {n} {got} new old z e = e ∙ ap (λ (k : ℕ). written k new old) z
+
+-- ---- what a test decides
+pub if-true : {A : Type 0} {t : Bool} (x y : A) → t ≡ true → x ≡ cond t x y
+if-true x y e = rw e
+
+pub if-false : {A : Type 0} {t : Bool} (x y : A) → t ≡ false → y ≡ cond t x y
+if-false x y e = rw e
+
+-- ---- two lists of tests, one behind the other
+-- where the first tests refuse, those behind them are not heard
+pub refused-already : (tests more : List (ℕ × Bool)) → (lowest tests ≡ 0 → ⊥) → lowest tests ≡ lowest (tests ++ more)
+unfolding lowest
+refused-already [] more z = absurd (z refl)
+refused-already ((n, true) ∷ tests) more z = refused-already tests more z
+refused-already ((n, false) ∷ tests) more z = refl
+
+-- where the first tests, in rising order from a number above 0, all pass, those behind them decide
+pub decided-behind :
+    (n : ℕ) (tests more : List (ℕ × Bool)) → 0 < n → T (rising n tests) → lowest tests ≡ 0 → lowest more ≡ lowest (tests ++ more)
+unfolding lowest rising
+decided-behind n [] more N r z = refl
+decided-behind n ((m, true) ∷ tests) more N r z =
+    decided-behind m tests more (omega (arith, step-up n m tests r)) (rest-rises n m tests r) z
+decided-behind n ((m, false) ∷ tests) more N r z = absurd (not-both m z (omega (arith, step-up n m tests r)))

@@ -8,7 +8,7 @@ use native.Mathlib.Omega.{arith}
 use lib.ListN.{length, getD, take, drop, set, length-append, length-take, length-drop}
 use lib.Seq.{drop-cons, drop-drop, drop-length, set-at, take-at, drop-at}
 use Rattle.laws.specs.Rows.{listed, laid, over}
-use Rattle.laws.proofs.Lists.{length-listed, length-laid}
+use Rattle.laws.proofs.Lists.{length-listed, length-laid, behind-part, over-then, Stacked, stack-ends}
 
 module _ {A : Type 0} where
   -- ---- the front of a list, written sample after sample
@@ -54,18 +54,25 @@ module _ {A : Type 0} where
   unfolding laid
   over-row n w row old so-far line s h e =
       let long = length-laid row w h n in
-      let rest = n * w + w - n * w in
-      let split : so-far ≡ laid n row ++ drop (n * w) old = s ∙ rw long in
-      let front : take (n * w) so-far ≡ laid n row = rw split (take-at (laid n row) (drop (n * w) old) (n * w) long) in
-      let to : n * w + rest ≡ n * w + w = omega arith in
-      let back : drop rest (drop (n * w) so-far) ≡ drop (n * w + w) old =
-      ap (λ (xs : List A). drop rest (drop (n * w) xs)) split
-      ∙ (ap (λ (xs : List A). drop rest xs) (drop-at (laid n row) (drop (n * w) old) (n * w) long)
-      ∙ (drop-drop rest (n * w) old ∙ ap (λ (m : ℕ). drop m old) to)) in
-      let grown : over (laid (n + 1) row) old ≡ laid n row ++ (row n ++ drop (n * w + w) old) = simp (add-one, length-append, long, h n, append-assoc) in
-      (λ i. front i ++ (e i ++ back i)) ∙ sym grown
+      ap (λ (rest : List A). take (n * w) so-far ++ (line ++ rest)) (behind-part (n * w) w so-far)
+      ∙ ap (λ (xs : List A). take (n * w) xs ++ (line ++ drop (n * w + w) xs)) s
+      ∙ over-then (laid n row) line old (n * w) w long (ap length e ∙ h n)
+      ∙ ap (λ (xs : List A). over xs old) (ap (λ (last : List A). laid n row ++ last) e ∙ ap (λ (k : ℕ). laid k row) (sym (add-one n)))
+
+  -- rows that fill a list are all there is
+  pub stack-fills :
+      {row : ℕ → List A} {width n : ℕ} {old new : List A} {y : ℕ} (wide : (y : ℕ) → length (row y) ≡ width) →
+      Stacked row width n old new y → n ≤ y → length old ≡ n * width → new ≡ laid n row
+  stack-fills {row} {width} {n} {old} wide s h e =
+      stack-ends wide s h ∙ over-all (laid n row) old (e ∙ sym (length-laid row width wide n))
 
 -- row y of h rows of w ends within what holds them all
 pub row-within : (y h w n : ℕ) → y < h → h * w ≤ n → y * w + w ≤ n
 row-within y h w n l f =
     let m : suc y * w ≤ h * w = mul-le-mul-right w (omega arith) in omega (arith, m, suc-mul y w)
+
+-- row y of h rows that stand a stride apart ends before the last one does
+pub strided-within : (stride h row bytes y : ℕ) → (h - 1) * stride + row ≤ bytes → y < h → y * stride + row ≤ bytes
+strided-within stride h row bytes y long l =
+    let above : y ≤ h - 1 = omega arith in
+    omega (arith, mul-le-mul-right stride above)

@@ -1,5 +1,4 @@
 -- The laws that the proofs of the functions cite, and the claims.
-pub mod General
 pub mod Quotients
 pub mod Judged
 pub mod Painted

@@ -7,7 +7,7 @@ use lib.IntN.{pos}
 use lib.ListN.{length, getD}
 use lib.Ieee.{Float, nan}
 use Rattle.laws.specs.Rows.{laid, over}
-use Rattle.laws.proofs.Lists.{length-listed, listed-at, same-laid, length-laid}
+use Rattle.laws.proofs.Lists.{length-listed, listed-at, same-laid, length-laid, cut-row}
 use Rattle.plane.specs.Plane.{half}
 use Rattle.filter.specs.declared.Quality.{Quality}
 use Rattle.filter.specs.declared.Rows.{Rows}
@@ -18,7 +18,6 @@ use Rattle.fill.specs.Fill.{lineOf}
 use Rattle.fill.specs.Band.{bandOf}
 use Rattle.picture.specs.Picture.{Frame, lumaIn, cbIn, crIn, pixelOf, colourAt, pixelRow}
 use Rattle.picture.specs.Inner.{Ready, cut, paintedRow, paintedAt}
-use Rattle.picture.proofs.General.{cut-row}
 
 -- ---- lengths
 pub length-pixels : (n : ℕ) (pixel : ℕ → List ℕ) → ((x : ℕ) → length (pixel x) ≡ 4) → length (laid n pixel) ≡ n * 4

@@ -11,7 +11,7 @@ use Rattle.plane.specs.Plane.{goodShape}
 use Rattle.plane.proofs.Coordinates.{both-inside}
 use Rattle.colour.specs.declared.Conversion.{Conversion}
 use Rattle.picture.specs.Picture.{Frame, frameOf, goodShapes, pictureTests}
-use Rattle.desk.proofs.Cut.{cut-good, cut-same}
+use Rattle.numbers.proofs.Cut.{cut-good, cut-same}
 use Rattle.picturedesk.specs.Inner.{cutPlanes, cutFrame}
 
 -- ---- the three shapes of a frame

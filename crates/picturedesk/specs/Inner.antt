@@ -2,7 +2,7 @@
 -- shows that the cut changes nothing.
 use Rattle.plane.specs.declared.Planes.{Planes}
 use Rattle.picture.specs.Picture.{Frame, frameOf}
-use Rattle.desk.specs.Inner.{cut}
+use Rattle.numbers.specs.Inner.{cut}
 
 abbrev pub cutPlanes : Planes → Planes
 cutPlanes p = record { luma = cut (p .luma); cb = cut (p .cb); cr = cut (p .cr) }

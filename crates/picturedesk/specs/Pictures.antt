@@ -13,7 +13,7 @@ use Rattle.field.specs.Field.{parityNamed}
 use Rattle.plane.specs.declared.Planes.{Planes}
 use Rattle.colour.specs.declared.Conversion.{Conversion}
 use Rattle.picture.specs.Picture.{Frame, pictureTests}
-use Rattle.desk.specs.Planes.{shapeNamed}
+use Rattle.numbers.specs.Numbers.{shapeNamed}
 use Rattle.picturedesk.specs.declared.FrameNumbers.{FrameNumbers}
 use Rattle.picturedesk.specs.declared.OutputNumbers.{OutputNumbers}
 

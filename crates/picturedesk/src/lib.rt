@@ -1,13 +1,12 @@
 // What the capture desk's Rust host calls of pictures, beside crate `desk` and in its manner: numbers
 // and byte slices, the answer a number of docs/RULES.md, "What the desk gets back".
-use desk::planes;
-use desk::planes::PlaneNumbers;
+use numbers::PlaneNumbers;
 ghost use mathlib.Core.Path.{_≡_};
 ghost use lib.ListN.{length};
 ghost use Rattle.laws.specs.Refusal.{written};
 ghost use Rattle.laws.specs.Rows.{over};
 ghost use Rattle.picture.specs.Picture.{frameOf, pictureOf};
-ghost use Rattle.desk.specs.Filters.{qualityNamed};
+ghost use Rattle.filter.specs.Rows.{qualityNamed};
 ghost use Rattle.picturedesk.specs.Inner.{cutPlanes};
 ghost use Rattle.picturedesk.specs.Pictures.{chosenNamed, sourceNamed, outputNamed, planesNamed, layoutsNamed, outputGood, allNamed, pictureNamedNo};
 
@@ -83,9 +82,9 @@ fn output_good(n: OutputNumbers) -> bool
 fn planes_named(n: FrameNumbers) -> plane::Planes
     ensures { λ r. ⌜ r ≡ cutPlanes (planesNamed n) ⌝ }
 {
-    let luma = planes::shape_named(n.luma);
-    let cb = planes::shape_named(n.cb);
-    let cr = planes::shape_named(n.cr);
+    let luma = numbers::shape_named(n.luma);
+    let cb = numbers::shape_named(n.cb);
+    let cr = numbers::shape_named(n.cr);
     plane::Planes {
         luma: luma,
         cb: cb,
@@ -144,7 +143,7 @@ pub extern "C" fn desk_picture(
     }
     picture::picture_of(
         out,
-        desk::filters::quality_named(quality),
+        filter::Quality::named(quality),
         output_named(output),
         conversion,
         planes_named(previous),

@@ -13,8 +13,6 @@ use Rattle.desk.proofs.combs.desk_comb_rgba.Kinds as desk-comb-rgba-kinds
 use Rattle.desk.proofs.combs.desk_comb_rgba.Reads as desk-comb-rgba
 use Rattle.desk.proofs.fields.desk_first_field.Kinds as desk-first-field-kinds
 use Rattle.desk.proofs.fields.desk_first_field.Reads as desk-first-field
-use Rattle.desk.proofs.filters.quality_named.Kinds as quality-named-kinds
-use Rattle.desk.proofs.filters.quality_named.Reads as quality-named
 use Rattle.desk.proofs.filters.desk_edge.Kinds as desk-edge-kinds
 use Rattle.desk.proofs.filters.desk_edge.Reads as desk-edge
 use Rattle.desk.proofs.filters.desk_sample.Kinds as desk-sample-kinds
@@ -62,9 +60,6 @@ pub desk-first-field-once : OneAnswer 1 desk-first-field-kinds.ps desk-first-fie
 desk-first-field-once =
     once 1 desk-first-field-kinds.ps desk-first-field-kinds.r desk-first-field.Post (λ κs a x y s t p q. same (p .0) (q .0))
     (λ κs a x u v p q. refl and refl and same (p .1) (q .1) and refl)
-
-pub quality-named-once : OneAnswer 0 quality-named-kinds.ps quality-named-kinds.r quality-named.Post
-quality-named-once κs a x y u v p q = (same p q, refl)
 
 pub desk-edge-once : OneAnswer 2 desk-edge-kinds.ps desk-edge-kinds.r desk-edge.Post
 desk-edge-once =

@@ -43,8 +43,6 @@ use Rattle.plane.proofs.Planes.planar.Kinds as planar-kinds
 use Rattle.plane.proofs.Planes.planar.Reads as planar
 use Rattle.plane.proofs.Planes.biplanar.Kinds as biplanar-kinds
 use Rattle.plane.proofs.Planes.biplanar.Reads as biplanar
-use Rattle.plane.proofs.refusal.lowest_of.Kinds as lowest-of-kinds
-use Rattle.plane.proofs.refusal.lowest_of.Reads as lowest-of
 use Rattle.unique.specs.Unique.{OneAnswer}
 use Rattle.unique.proofs.Law.{same}
 
@@ -110,6 +108,3 @@ planar-once κs a x y u v p q = (same p q, refl)
 
 pub biplanar-once : OneAnswer 0 biplanar-kinds.ps biplanar-kinds.r biplanar.Post
 biplanar-once κs a x y u v p q = (same p q, refl)
-
-pub lowest-of-once : OneAnswer 0 lowest-of-kinds.ps lowest-of-kinds.r lowest-of.Post
-lowest-of-once κs a x y u v p q = (same p q, refl)

@@ -6,11 +6,10 @@ use native.Mathlib.Omega.{arith}
 use lib.ListN.{length, getD, take, drop}
 use Rattle.laws.specs.Refusal.{rising}
 use Rattle.laws.proofs.Claims.{lowest-says}
-use Rattle.laws.proofs.Lists.{part-at, length-laid, laid-at}
+use Rattle.laws.proofs.Lists.{part-at, length-laid, laid-at, laid-row, clamped-row}
 use Rattle.weave.specs.declared.Lines.{Lines}
 use Rattle.weave.specs.Weave.{lineBytes, wovenLine, wovenPlane, wovenBytes, weaveTests, lineTests}
 use Rattle.weave.specs.Claims.{WeaveSays, LineSays, Matched, WovenAlternates, LineOfWoven}
-use Rattle.weave.proofs.General.{row-of-laid, clamped-row}
 use Rattle.weave.proofs.Fields.{wovenRows, same-size, rows-wide, rows-laid, even-row, odd-row}
 
 pub weave-says : WeaveSays
@@ -54,7 +53,7 @@ module _ (top : List ℕ) (t : Lines) (bottom : List ℕ) (b : Lines) (m : Match
   one-line : (y : ℕ) → y < t .height * 2 → take (lineBytes t) (drop (y * lineBytes t) (wovenPlane top t bottom b)) ≡ wovenLine top t bottom b y
   one-line y h =
       ap (λ (l : List ℕ). take (lineBytes t) (drop (y * lineBytes t) l)) (sym (rows-laid top t bottom b m))
-      ∙ row-of-laid (wovenRows top t bottom b) (lineBytes t) wide (t .height * 2) y 0 h
+      ∙ laid-row (wovenRows top t bottom b) (lineBytes t) wide (t .height * 2) y h
       ∙ clamped-row (wovenLine top t bottom b) (t .height * 2 - 1) y (omega arith)
 
 pub woven-alternates : WovenAlternates

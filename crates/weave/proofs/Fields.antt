@@ -3,15 +3,15 @@ use Prim.Native.Nat.{ℕ, _+_, _-_, _*_, _/_, _%_, _≤_, _<_}
 use mathlib.Core.Path.{_≡_, refl, sym, ap, ap₂, _∙_}
 use mathlib.Core.Bool.{Bool, true, false, cond, _&&_}
 use mathlib.Core.List.{List, _++_}
-use native.Mathlib.Nat.{mul-le-mul-right, suc-mul}
+use native.Mathlib.Nat.{suc-mul}
 use native.Mathlib.Numerals.{add-one}
 use native.Mathlib.Omega.{arith}
 use lib.Dec.{leb, eqb}
 use lib.ListN.{length, take, drop}
 use borrow.Author.Tests.{leb-true, eqb-true, eq-eqb, ne-eqb}
 use Rattle.laws.specs.Rows.{laid, over}
-use Rattle.laws.proofs.Rows.{row-within}
-use Rattle.laws.proofs.Lists.{part-length, Stacked, stack-starts, stack-ends}
+use Rattle.laws.proofs.Rows.{row-within, strided-within}
+use Rattle.laws.proofs.Lists.{part-length, Stacked, stack-starts, stacks-part, stack-ends, clamped, clamped-wide, clamped-row, clamped-laid}
 use Rattle.plane.specs.declared.Shape.{Shape}
 use Rattle.plane.specs.Plane.{goodShape, planeBytes, sampleBytes, agree}
 use Rattle.plane.proofs.Bounds.{good-within}
@@ -19,7 +19,6 @@ use Rattle.plane.proofs.Coordinates.{both-inside}
 use Rattle.weave.specs.declared.Lines.{Lines}
 use Rattle.weave.specs.Weave.{shapeOf, lineBytes, goodLines, lineIn, wovenLine, placeIn, linePlace, wovenPlane, wovenBytes}
 use Rattle.weave.specs.Claims.{Matched}
-use Rattle.weave.proofs.General.{stacks-part, clamped, clamped-wide, clamped-row, clamped-laid}
 
 -- planes that agree, number by number
 pub record Alike (a b : Shape) : Type 0 where
@@ -57,9 +56,7 @@ bounded l h =
 
 -- a line of a plane that has the bytes it needs ends within it
 pub line-within : (l : Lines) (bytes r : ℕ) → planeBytes (shapeOf l) ≤ bytes → r < l .height → r * l .stride + lineBytes l ≤ bytes
-line-within l bytes r whole h =
-    let above : r ≤ l .height - 1 = omega arith in
-    omega (arith, mul-le-mul-right (l .stride) above)
+line-within l bytes r whole h = strided-within (l .stride) (l .height) (lineBytes l) bytes r whole h
 
 -- an even woven line is a top line, an odd one a bottom line
 module _ (top : List ℕ) (t : Lines) (bottom : List ℕ) (b : Lines) where

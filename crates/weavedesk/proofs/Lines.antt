@@ -7,18 +7,17 @@ use native.Mathlib.Omega.{arith}
 use lib.Dec.{leb, lit<}
 use lib.ListN.{length}
 use borrow.Author.Tests.{eq-eqb, le-leb, lt-leb}
-use Rattle.laws.proofs.Refusal.{stays}
+use Rattle.laws.proofs.Lists.{clamped-row}
+use Rattle.laws.proofs.Refusal.{stays, refused-already, decided-behind}
 use Rattle.laws.specs.Refusal.{lowest, rising, written}
 use Rattle.laws.specs.Rows.{over}
 use Rattle.weave.specs.declared.Lines.{Lines}
 use Rattle.weave.specs.Weave.{lineBytes, lineNo, lineTests, wovenLine}
-use Rattle.weave.proofs.General.{clamped-row}
 use Rattle.weave.proofs.Fields.{rows-wide}
 use Rattle.weave.proofs.Judged.{line-judged}
 use Rattle.weavedesk.specs.declared.LinesNumbers.{LinesNumbers}
 use Rattle.weavedesk.specs.Woven.{linesNamed, lineOutNo}
 use Rattle.weavedesk.specs.Inner.{linesCut}
-use Rattle.weavedesk.proofs.General.{refused-already, decided-behind}
 use Rattle.weavedesk.proofs.Narrowed.{line-same}
 
 -- a woven line that is not refused is as long as a line of the top field

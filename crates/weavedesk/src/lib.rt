@@ -3,7 +3,6 @@
 // value to a lent place, which a refusal leaves as it was. Numbers are wider than a shape's own, so
 // that none can wrap into the bounds. Between calls the host keeps the weaver in 56 bytes that it
 // lends.
-use desk::planes;
 use field::Parity;
 use weaver::Paired;
 use weaver::Time;
@@ -76,9 +75,9 @@ pub struct ReadbackNumbers {
 fn lines_cut(lines: LinesNumbers) -> weave::Lines
     ensures { λ r. ⌜ r ≡ linesCut lines ⌝ }
 {
-    let width = planes::at_most_65535(lines.width);
-    let height = planes::at_most_65535(lines.height);
-    let depth = planes::at_most_255(lines.depth);
+    let width = numbers::at_most_65535(lines.width);
+    let height = numbers::at_most_65535(lines.height);
+    let depth = numbers::at_most_255(lines.depth);
     weave::Lines {
         width: width,
         height: height,
@@ -151,10 +150,10 @@ fn format_numbers(f: weave::Format) -> FormatNumbers
 fn readback_cut(n: ReadbackNumbers) -> readback::Readback
     ensures { λ r. ⌜ r ≡ readbackCut n ⌝ }
 {
-    let planes = planes::at_most_255(n.planes);
-    let width = planes::at_most_65535(n.width);
-    let height = planes::at_most_65535(n.height);
-    let depth = planes::at_most_255(n.depth);
+    let planes = numbers::at_most_255(n.planes);
+    let width = numbers::at_most_65535(n.width);
+    let height = numbers::at_most_65535(n.height);
+    let depth = numbers::at_most_255(n.depth);
     readback::Readback {
         planes: planes,
         width: width,

@@ -5,7 +5,7 @@ use mathlib.Core.Bool.{Bool, true, false}
 use mathlib.Core.List.{List, [], _∷_}
 use lib.ListN.{length}
 use borrow.Author.Tests.{ne-eqb}
-use Rattle.laws.proofs.Refusal.{stays}
+use Rattle.laws.proofs.Refusal.{stays, done-wrote, if-true, if-false}
 use Rattle.laws.specs.Refusal.{lowest, whenDone, written}
 use Rattle.laws.specs.Rows.{over}
 use Rattle.field.specs.declared.Parity.{Parity}
@@ -18,7 +18,6 @@ use Rattle.weaver.specs.declared.Paired.{Paired}
 use Rattle.weaver.specs.declared.Paired.the-variants as paired
 use Rattle.weaver.specs.Weaver.{packedField, emptyWeaver, waitingFor, keptField, fits, wovenBy}
 use Rattle.weaver.specs.Weaver.{pushNo, pairedNo, pairedValues, pictureTimes, pushWeaver, pushStore, pushOut}
-use Rattle.weaver.proofs.General.{done-wrote, if-true, if-false}
 use Rattle.weaver.proofs.Judged.{testsOf}
 
 -- ---- a plane of a pair, by the parity of the field that waited

@@ -3,7 +3,7 @@
 use Prim.Native.Nat.{ℕ, zero, suc, _+_, _≤_}
 use native.Mathlib.Omega.{arith}
 use mathlib.Core.Path.{_≡_, refl, sym, ap, subst, _∙_}
-use mathlib.Core.Bool.{Bool, true, false, cond}
+use mathlib.Core.Bool.{Bool, true, false, cond, _&&_, and-assoc, and-true}
 use mathlib.Core.List.{List, [], _∷_, _++_}
 use lib.Dec.{leb, eqb}
 use lib.ListN.{length, drop, length-append}
@@ -16,7 +16,6 @@ use Rattle.weaver.specs.declared.Weaver.{Weaver}
 use Rattle.weaver.specs.Weaver.{packedField, fieldBytes, emptyWeaver, waitingFor, keptBytes, opposite, fits, pushNo}
 use Rattle.weaver.specs.History.{Sent, Call, push, clear, State, numberIn, next, after}
 use Rattle.weaver.specs.History.{Waiting, none, waits, mates, mateOf, waitingThen, waitingAfter, hasRoom, refusalOf, taken}
-use Rattle.weaver.proofs.General.{and-then, and-true}
 use Rattle.weaver.proofs.Packed.{Sound, field-packed}
 use Rattle.weaver.proofs.Judged.{sound, Passed, passed}
 
@@ -58,7 +57,11 @@ fits-by none f = refl
 fits-by (waits first) f =
     let l = first .field .shape .luma in
     let m = f .field .shape .luma in
-    and-then (opposite (first .parity) (f .parity)) (eqb (l .width) (m .width)) (eqb (l .height) (m .height)) (eqb (l .depth) (m .depth))
+    let other = opposite (first .parity) (f .parity) in
+    let wide = eqb (l .width) (m .width) in
+    let high = eqb (l .height) (m .height) in
+    let deep = eqb (l .depth) (m .depth) in
+    ap (λ (t : Bool). t && deep) (and-assoc other wide high) ∙ and-assoc other (wide && high) deep
 
 -- what is kept fits the store, so it refuses nothing
 kept-within : (w : Waiting) → SoundBy w → keptBytes (weaverBy w) ≤ length (packedBy w)
@@ -83,7 +86,7 @@ module _ (room : ℕ) (f : Sent) where
   number-by : (w : Waiting) → keptBytes (weaverBy w) ≤ room
       → pushNo (weaverBy w) (f .field) (f .parity) room (f .luma-room) (f .cb-room) (f .cr-room) ≡ refusalBy room w f
   number-by w e =
-      let long = and-true (whole (f .field)) (leb (keptBytes (weaverBy w)) room) (le-leb (keptBytes (weaverBy w)) room e) in
+      let long = ap (λ (t : Bool). whole (f .field) && t) (le-leb (keptBytes (weaverBy w)) room e) ∙ and-true (whole (f .field)) in
       let roomy : cond (fits (weaverBy w) (f .field .shape) (f .parity)) outRoom fieldRoom ≡ hasRoom room (mateOf w f) f =
       ap (λ (t : Bool). cond t outRoom fieldRoom) (fits-by w f) ∙ room-by w in
       λ i. lowest ((4, goodField (f .field .shape)) ∷ (5, chromaFits (f .field .shape)) ∷ (6, long i) ∷ (7, roomy i) ∷ [])

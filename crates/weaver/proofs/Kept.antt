@@ -6,7 +6,7 @@ use mathlib.Core.Bool.{true, cond}
 use mathlib.Core.List.{List, _++_}
 use lib.Dec.{eqb}
 use lib.ListN.{length, take, drop}
-use Rattle.laws.proofs.Lists.{same-laid}
+use Rattle.laws.proofs.Lists.{part-one, part-two, part-three, same-laid}
 use Rattle.field.specs.declared.Parity.{Parity}
 use Rattle.field.specs.declared.Parity.the-variants.{Top, Bottom}
 use Rattle.plane.specs.Plane.{planeBytes, half}
@@ -14,7 +14,6 @@ use Rattle.weave.specs.declared.Lines.{Lines}
 use Rattle.weave.specs.Weave.{Given, shapeOf, goodLines, lineIn, wovenLine, wovenPlane}
 use Rattle.weave.proofs.Judged.{Half}
 use Rattle.weaver.specs.Weaver.{packedLines, packedPlane, packedField, lumaBytes, chromaBytes, wovenBy}
-use Rattle.weaver.proofs.General.{part-one, part-two, part-three}
 use Rattle.weaver.proofs.Packed.{packed-line, Sound, luma-packed, cb-packed, cr-packed}
 
 -- ---- planes

@@ -10,19 +10,17 @@ use lib.Dec.{leb}
 use lib.ListN.{length, take, drop, length-append}
 use borrow.Author.Tests.{le-leb}
 use Rattle.laws.specs.Rows.{laid, over}
-use Rattle.laws.proofs.Lists.{length-laid, Stacked, stack-starts, stacks, stack-ends, part-length}
-use Rattle.laws.proofs.Rows.{row-within, over-all}
+use Rattle.laws.proofs.Lists.{length-laid, laid-row, over-then, Stacked, stack-starts, stacks, part-length, clamped, clamped-wide, clamped-row, clamped-laid}
+use Rattle.laws.proofs.Rows.{row-within, stack-fills}
 use Rattle.plane.specs.Plane.{sampleBytes, goodShape, planeBytes}
 use Rattle.plane.proofs.Bounds.{good-within}
 use Rattle.plane.proofs.Coordinates.{both-inside}
 use Rattle.weave.specs.declared.Lines.{Lines}
 use Rattle.weave.specs.Weave.{Given, shapeOf, lineBytes, goodLines, lineIn}
-use Rattle.weave.proofs.General.{clamped, clamped-wide, clamped-row, clamped-laid}
 use Rattle.weave.proofs.Fields.{bounded, line-within}
 use Rattle.weave.proofs.Judged.{Half}
 use Rattle.weaver.specs.Weaver.{packedLines, packedPlane, packedField, lumaBytes, chromaBytes, fieldBytes}
 use Rattle.weaver.specs.Inner.{Packable}
-use Rattle.weaver.proofs.General.{laid-row, over-then}
 
 -- ---- a plane
 
@@ -62,7 +60,7 @@ module _ (bytes : List ℕ) (l : Lines) (good : goodLines l ≡ true) (long : pl
       let size = l .width * sampleBytes (l .depth) in
       ap (λ (n : ℕ). take n (drop (y * size) (packedPlane bytes l))) (row-size l)
       ∙ ap (λ (plane : List ℕ). take size (drop (y * size) plane)) (sym rows-laid)
-      ∙ laid-row (packedRows bytes l) size rows-wide (l .height) y 0 h
+      ∙ laid-row (packedRows bytes l) size rows-wide (l .height) y h
       ∙ clamped-row (lineIn bytes l) (l .height - 1) y (omega arith)
 
 -- ---- a loop that packs a row of n bytes in a turn
@@ -91,9 +89,7 @@ module _ (plane : List ℕ) (l : Lines) (part : ℕ) (p : Packable part (length 
   pub all-rows :
       {old new : List ℕ} (y : ℕ) → Stacked (packedRows plane l) n (l .height) old new y → l .height ≤ y → length old ≡ part → new ≡ packedPlane plane l
   all-rows {old} {new} y s h same =
-      stack-ends wide s h
-      ∙ ap (λ (rows : List ℕ). over rows old) (rows-laid plane l (p .good) (p .long))
-      ∙ over-all (packedPlane plane l) old (same ∙ p .exact ∙ sym (packed-long plane l (p .good) (p .long)))
+      stack-fills wide s h (same ∙ p .exact ∙ ap (λ (k : ℕ). l .height * k) (sym e)) ∙ rows-laid plane l (p .good) (p .long)
 
 -- a plane within the bounds is within them packed
 pub packed-good : (l : Lines) → goodLines l ≡ true → goodLines (packedLines (l .width) (l .height) (l .depth)) ≡ true

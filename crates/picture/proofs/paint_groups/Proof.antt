@@ -6,11 +6,10 @@ use native.Mathlib.Omega.{arith}
 use borrow.Author.Needs.{needs}
 use lib.ListN.{length}
 use denote.Ref.{now}
-use Rattle.laws.proofs.Lists.{Stacked, stack-starts, stack-ends}
+use Rattle.laws.proofs.Lists.{Stacked, stack-starts, stacks-rows, stack-ends}
 use Rattle.laws.proofs.Rows.{length-part}
 use Rattle.picture.specs.Picture.{Frame, frameOf, served, pixelRow, pixelRows}
 use Rattle.picture.specs.Inner.{Rooms}
-use Rattle.picture.proofs.General.{stacks-rows}
 use Rattle.picture.proofs.Painted.{length-row}
 use Rattle.picture.proofs.paint_groups.Statement.{statement}
 use Rattle.picture.proofs.paint_groups.Tie as tie

@@ -2,7 +2,7 @@ use mathlib.Core.Path.{_∙_}
 use mathlib.Core.List.{[], _∷_}
 use borrow.Author.Needs.{needs}
 use denote.Ref.{now}
-use Rattle.picture.proofs.General.{four}
+use Rattle.laws.proofs.Lists.{four}
 use Rattle.picture.proofs.put.Statement.{statement}
 use Rattle.picture.proofs.put.Tie as tie
 

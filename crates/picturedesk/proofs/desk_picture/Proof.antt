@@ -11,7 +11,7 @@ use Rattle.laws.specs.Refusal.{lowest, written}
 use Rattle.laws.specs.Rows.{over}
 use Rattle.laws.proofs.Refusal.{number-behind, written-alike}
 use Rattle.picture.specs.Picture.{Frame, frameOf, pictureTests, pictureOf}
-use Rattle.desk.specs.Filters.{qualityNamed}
+use Rattle.filter.specs.Rows.{qualityNamed}
 use Rattle.picturedesk.specs.Pictures.{outputNamed, planesNamed, allNamed}
 use Rattle.picturedesk.proofs.Cut.{picture-number, picture-same}
 use Rattle.picturedesk.proofs.desk_picture.Statement.{statement}

@@ -3,7 +3,7 @@ use mathlib.Core.Bool.{true, _&&_}
 use Prim.Native.Nat.{ℕ, _<_}
 use native.Mathlib.Nat.{lt-trans}
 use native.Mathlib.Omega.{arith}
-use lib.Dec.{T, lit<}
+use lib.Dec.{T}
 use lib.IntN.{ℤ, natAbs}
 use lib.Signed.{nonNeg}
 use lib.ListN.{length}
@@ -12,10 +12,10 @@ use mir.Syntax.{w16}
 use mir.Val.{Fits}
 use mir.Facts.{toZ-ofZ}
 use borrow.Author.Tests.{leb-true}
-use Rattle.laws.specs.Refusal.{lowest}
-use Rattle.laws.proofs.Refusal.{gives, refuses, first-passes, rest-passes}
+use Rattle.laws.specs.Refusal.{lowest, rising}
+use Rattle.laws.proofs.Refusal.{AllPass, all-pass, gives, refuses}
 use Rattle.plane.specs.Plane.{codeOf}
-use Rattle.plane.specs.Answer.{readTests, codeNo}
+use Rattle.plane.specs.Answer.{readTests, codeTests, codeNo}
 use Rattle.plane.specs.Coordinates.{inside}
 use Rattle.plane.proofs.Coordinates.{both-inside, inside-nonneg, inside-below}
 use borrow.Author.Needs.{needs}
@@ -46,11 +46,15 @@ number c =
 done : (c : tie.Then1) → let a = entry (c .before) .args in codeNo (a .s) (length (now (a .plane))) (a .x) (a .y) ≡ 0
 done c = sym (number (c .before)) ∙ sym (c .before .read-no .ensures) ∙ c .if1 .taken
 
+passed : (c : tie.Then1) → let a = entry (c .before) .args in AllPass (codeTests (a .s) (length (now (a .plane))) (a .x) (a .y))
+unfolding rising
+passed c = all-pass _ tt (done c)
+
 inner :
     (c : tie.Then1) →
     let a = entry (c .before) .args in
     (inside (a .s .width) (a .x) ≡ true) × (inside (a .s .height) (a .y) ≡ true)
-inner c = both-inside _ _ (first-passes 3 _ _ (lit< tt) (done c))
+inner c = both-inside _ _ (passed c .0)
 
 -- a coordinate inside a plane, as the machine holds it, fits the narrow type
 narrow : (size : ℕ) (x : ℤ) {z : ℤ} → size < 65536 → inside size x ≡ true → z ≡ x → T (nonNeg z) × Fits w16 (natAbs z)
@@ -85,7 +89,7 @@ code-inside-requires c κs =
     let a = start .args in (
       below (a .s .width) (a .x) (inner c .0) (toZ-ofZ (start .fits .x)),
       below (a .s .height) (a .y) (inner c .1) (toZ-ofZ (start .fits .y)),
-      leb-true _ _ (first-passes 6 _ _ (lit< tt) (rest-passes 4 _ _ (lit< tt) (rest-passes 3 _ _ (lit< tt) (done c)))),
+      leb-true _ _ (passed c .1 .1 .0),
     )
 
 returns : tie.Need-returns

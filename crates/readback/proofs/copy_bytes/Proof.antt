@@ -1,7 +1,7 @@
 use mathlib.Core.Path.{_∙_}
 use denote.Ref.{now}
 use borrow.Author.Needs.{needs}
-use Rattle.readback.proofs.General.{copy-lays}
+use Rattle.copy.proofs.Copied.{copy-lays}
 use Rattle.readback.proofs.copy_bytes.Statement.{statement}
 use Rattle.readback.proofs.copy_bytes.Tie as tie
 

@@ -3,8 +3,7 @@ use Prim.Native.Nat.{_+_, _-_, _*_}
 use mathlib.Core.Path.{refl}
 use native.Mathlib.Omega.{arith}
 use lib.ListN.{getD}
-use Rattle.laws.proofs.Lists.{Filled, fill-starts, fills}
-use Rattle.readback.proofs.General.{fill-lays}
+use Rattle.laws.proofs.Lists.{Filled, fill-starts, fills, fill-lays}
 use borrow.Author.Needs.{needs}
 use Rattle.readback.proofs.copy_every_second_byte.Statement.{statement}
 use Rattle.readback.proofs.copy_every_second_byte.Tie as tie

@@ -4,9 +4,9 @@ use mathlib.Core.Path.{refl}
 use mathlib.Core.List.{[], _∷_}
 use native.Mathlib.Omega.{arith}
 use lib.ListN.{length-set}
-use Rattle.laws.proofs.Lists.{Stacked, stack-starts}
+use Rattle.laws.proofs.Lists.{Stacked, stack-starts, stacks-two}
+use Rattle.laws.proofs.Rows.{stack-fills}
 use Rattle.readback.specs.Inner.{pairOf}
-use Rattle.readback.proofs.General.{stacks-two, stack-fills}
 use borrow.Author.Needs.{needs}
 use Rattle.readback.proofs.copy_every_second_pair.Statement.{statement}
 use Rattle.readback.proofs.copy_every_second_pair.Tie as tie

@@ -8,12 +8,11 @@ use lib.ListN.{length}
 use denote.Ref.{now}
 use Rattle.laws.specs.Rows.{laid, over}
 use Rattle.laws.proofs.Lists.{part-length, same-laid, Stacked, stack-starts, stacks, stack-ends}
-use Rattle.laws.proofs.Rows.{row-within, length-part}
+use Rattle.laws.proofs.Rows.{row-within, strided-within, length-part}
 use Rattle.plane.specs.Plane.{rowBytes}
 use Rattle.readback.specs.declared.Kind.{Kind}
 use Rattle.readback.specs.Readback.{copiedOf}
 use Rattle.readback.specs.Inner.{stepOf, sizeOf, copyIn}
-use Rattle.readback.proofs.General.{strided-within}
 use Rattle.readback.proofs.Rows.{row-size, copy-size, rowMade, length-made, row-copied}
 use borrow.Author.Needs.{needs}
 use Rattle.readback.proofs.copy_rows.Statement.{statement}

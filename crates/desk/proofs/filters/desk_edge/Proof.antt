@@ -20,7 +20,7 @@ use Rattle.plane.specs.Plane.{valueOf}
 use Rattle.plane.specs.Coordinates.{inReach}
 use Rattle.filter.specs.Filter.{edgeOf}
 use Rattle.filter.proofs.Claims.{edge-in-reach}
-use Rattle.desk.specs.Planes.{shapeNamed}
+use Rattle.numbers.specs.Numbers.{shapeNamed}
 use Rattle.desk.specs.Filters.{edgeNo}
 use Rattle.filter.specs.Answer.{edgedNo, edgedValues, edgeTests}
 use Rattle.desk.proofs.Cut.{read-number, read-value}

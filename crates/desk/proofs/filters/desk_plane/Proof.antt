@@ -1,4 +1,3 @@
--- `desk::filters::desk_plane` meets its contract: codes are tested here, and the rest is `fill::plane`'s own answer.
 use borrow.Author.Needs.{needs}
 use borrow.Author.Tests.{not-true, not-false}
 use mathlib.Core.Path.{_≡_, refl, _∙_}
@@ -9,12 +8,12 @@ use denote.Ref.{now}
 use Rattle.laws.specs.Refusal.{lowest, written}
 use Rattle.laws.specs.Rows.{over}
 use Rattle.laws.proofs.Refusal.{number-behind}
-use Rattle.plane.specs.declared.Shape.{Shape}
+use Rattle.field.specs.Field.{firstRowOf, parityNamed}
 use Rattle.plane.specs.Plane.{valueOf}
-use Rattle.fill.specs.Fill.{linesOf, planeTests, fieldRows}
-use Rattle.field.specs.Field.{parityNamed}
-use Rattle.desk.specs.Planes.{shapeNamed}
-use Rattle.desk.specs.Filters.{qualityNamed, allNamed}
+use Rattle.filter.specs.declared.Making.{Making}
+use Rattle.filter.specs.Rows.{fieldRowsOf}
+use Rattle.fill.specs.Fill.{linesOf, planeTests}
+use Rattle.desk.specs.Filters.{makingNamed, allNamed}
 use Rattle.desk.proofs.Cut.{plane-number, plane-value}
 use Rattle.desk.proofs.filters.desk_plane.Statement.{statement}
 use Rattle.desk.proofs.filters.desk_plane.Tie as tie
@@ -25,11 +24,11 @@ returns c =
     let a = c .before .before .before .before .before .before .before .before .args in
     simp (not-true (allNamed (a .quality) (a .before-shape) (a .cur-shape) (a .after-shape) && leb (a .first) 1) (c .if1 .taken)) (refl, refl)
 
-quality-named-requires : tie.Need-quality-named-requires
-quality-named-requires c κs = search needs
-
 named-requires : tie.Need-named-requires
 named-requires c κs = search needs
+
+named-requires-2 : tie.Need-named-requires-2
+named-requires-2 c κs = search needs
 
 shape-named-requires : tie.Need-shape-named-requires
 shape-named-requires c κs = search needs
@@ -53,26 +52,27 @@ returns-2 c =
     let b = k .before .before .before .shape-named .ensures in
     let m = k .before .before .shape-named2 .ensures in
     let e = k .before .shape-named3 .ensures in
-    let quality = k .before .before .before .before .before .quality-named .ensures in
-    let first = k .before .before .before .before .named .ensures in
+    let quality = k .before .before .before .before .before .named .ensures in
+    let first = k .before .before .before .before .named2 .ensures in
     let named =
     not-false (allNamed (a .quality) (a .before-shape) (a .cur-shape) (a .after-shape) && leb (a .first) 1)
     (k .before .before .before .before .before .before .before .if1 .left)
     in
+    let making = makingNamed (a .quality) (fieldRowsOf (firstRowOf (parityNamed (a .first)))) (a .before-shape) (a .cur-shape) (a .after-shape) in
     let number =
     number-behind 3 named
     (λ i. planeTests (b i) (length (now (a .before))) (m i) (length (now (a .cur))) (e i) (length (now (a .after))) (length (now (a .out))))
-    ∙ plane-number (shapeNamed (a .before-shape)) (shapeNamed (a .cur-shape)) (shapeNamed (a .after-shape))
+    ∙ plane-number making
     (allNamed (a .quality) (a .before-shape) (a .cur-shape) (a .after-shape) && leb (a .first) 1) (length (now (a .before))) (length (now (a .cur)))
     (length (now (a .after))) (length (now (a .out)))
     in (
       k .plane .ensures .0 ∙ number,
       k .plane .ensures .1
-          ∙ (λ i. written (number i) (over (linesOf (quality i) (fieldRows (first i)) (valueOf (now (a .before)) (b i)) (valueOf (now (a .cur)) (m i)) (valueOf (now (a .after)) (e i)) (m i .width) (m i .height)) (now (a .out))) (now (a .out)))
-          ∙ plane-value (shapeNamed (a .before-shape)) (shapeNamed (a .cur-shape)) (shapeNamed (a .after-shape))
+          ∙ (λ i. written (number i) (over (linesOf (quality i) (fieldRowsOf (firstRowOf (first i))) (valueOf (now (a .before)) (b i)) (valueOf (now (a .cur)) (m i)) (valueOf (now (a .after)) (e i)) (m i .width) (m i .height)) (now (a .out))) (now (a .out)))
+          ∙ plane-value making
           (allNamed (a .quality) (a .before-shape) (a .cur-shape) (a .after-shape) && leb (a .first) 1) (length (now (a .before)))
           (length (now (a .cur))) (length (now (a .after))) (length (now (a .out)))
-          (λ (b c e : Shape). over (linesOf (qualityNamed (a .quality)) (fieldRows (parityNamed (a .first))) (valueOf (now (a .before)) b) (valueOf (now (a .cur)) c) (valueOf (now (a .after)) e) (c .width) (c .height)) (now (a .out)))
+          (λ (m : Making). over (linesOf (m .quality) (m .rows) (valueOf (now (a .before)) (m .before)) (valueOf (now (a .cur)) (m .cur)) (valueOf (now (a .after)) (m .after)) (m .cur .width) (m .cur .height)) (now (a .out)))
           (now (a .out)),
     )
 
@@ -81,8 +81,8 @@ desk-plane-spec =
     tie.close
     (tie.spec
     returns
-    quality-named-requires
     named-requires
+    named-requires-2
     shape-named-requires
     shape-named-requires-2
     shape-named-requires-3

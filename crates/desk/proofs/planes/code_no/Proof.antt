@@ -1,8 +1,8 @@
--- `desk::planes::code_no` meets its contract: the coordinates are judged by the sizes as given, and what is judged by the cut shape is the same of
+-- The coordinates are judged by the sizes as given, and what is judged by the cut shape is the same of
 -- the shape as given.
 use Prim.Native.Nat.{ℕ}
 use mathlib.Core.Path.{_≡_, refl, ap, _∙_}
-use mathlib.Core.Bool.{Bool, true, _&&_}
+use mathlib.Core.Bool.{Bool, cond, _&&_}
 use mathlib.Core.List.{[], _∷_}
 use lib.Dec.{leb}
 use lib.IntN.{ℤ}
@@ -13,9 +13,10 @@ use Rattle.laws.proofs.Refusal.{lowest-halves}
 use Rattle.plane.specs.Plane.{goodShape, planeBytes}
 use Rattle.plane.specs.Coordinates.{inside}
 use Rattle.plane.specs.Answer.{readTests}
-use Rattle.desk.specs.declared.planes.PlaneNumbers.{PlaneNumbers}
-use Rattle.desk.specs.Planes.{shapeNamed, codeNo}
-use Rattle.desk.specs.Inner.{cut}
+use Rattle.numbers.specs.declared.PlaneNumbers.{PlaneNumbers}
+use Rattle.numbers.specs.Numbers.{shapeNamed}
+use Rattle.desk.specs.Planes.{codeNo}
+use Rattle.numbers.specs.Inner.{cut}
 use Rattle.desk.proofs.Cut.{read-number}
 use Rattle.desk.proofs.planes.code_no.Statement.{statement}
 use Rattle.desk.proofs.planes.code_no.Tie as tie
@@ -41,28 +42,37 @@ good-shape-requires c κs = search needs
 plane-bytes-requires : tie.Need-plane-bytes-requires
 plane-bytes-requires c κs = search needs
 
-lowest-of-requires : tie.Need-lowest-of-requires
-lowest-of-requires c κs = search needs
+test-requires : tie.Need-test-requires
+test-requires c κs = search needs
 
--- the six tests that are made, of which two never fail, are those of a read
+test-requires-2 : tie.Need-test-requires-2
+test-requires-2 c κs = search needs
+
+test-requires-3 : tie.Need-test-requires-3
+test-requires-3 c κs = search needs
+
+-- the three results, one behind the other
 judged :
-    (named coordinates good : Bool) (needed bytes : ℕ) →
-    lowest ((3, named && coordinates) ∷ (4, good) ∷ (5, true) ∷ (6, leb needed bytes) ∷ (7, true) ∷ (8, true) ∷ [])
-    ≡ lowest ((3, named) ∷ (3, coordinates) ∷ (4, good) ∷ (6, leb needed bytes) ∷ [])
+    {six four three : ℕ} (named coordinates good long : Bool) →
+    three ≡ cond (named && coordinates) four 3 → four ≡ cond good six 4 → six ≡ cond long 0 6 →
+    three ≡ lowest ((3, named) ∷ (3, coordinates) ∷ (4, good) ∷ (6, long) ∷ [])
 unfolding lowest
-judged named coordinates good needed bytes = lowest-halves 3 named coordinates ((4, good) ∷ (6, leb needed bytes) ∷ [])
+judged named coordinates good long p q r =
+    p
+    ∙ (λ i. cond (named && coordinates) ((q ∙ ap (λ (n : ℕ). cond good n 4) r) i) 3)
+    ∙ lowest-halves 3 named coordinates ((4, good) ∷ (6, long) ∷ [])
 
 returns : tie.Need-returns
 returns c =
-    let s = c .before .before .before .before .before .before .before .before .before in
+    let p = c .before .before .before in
+    let s = p .before .before .before .before .before .before .before .before in
     let a = s .args in
-    let x = c .before .before .before .before .before .before .is-inside .ensures ∙ ap (inside (a .shape .width)) (toZ-ofZ (s .fits .x)) in
-    let y = c .before .before .before .before .is-inside2 .ensures ∙ ap (inside (a .shape .height)) (toZ-ofZ (s .fits .y)) in
-    let held = c .before .before .before .before .before .before .before .before .shape-named .ensures in
-    let good = c .before .before .good-shape .ensures ∙ ap goodShape held in
-    let needed = c .before .plane-bytes .ensures ∙ ap planeBytes held in
-    c .lowest-of .ensures
-    ∙ judged (leb (a .shape .layout) 3) _ _ _ (a .bytes)
+    let x = p .before .before .before .before .before .is-inside .ensures ∙ ap (inside (a .shape .width)) (toZ-ofZ (s .fits .x)) in
+    let y = p .before .before .before .is-inside2 .ensures ∙ ap (inside (a .shape .height)) (toZ-ofZ (s .fits .y)) in
+    let held = p .before .before .before .before .before .before .before .shape-named .ensures in
+    let good = p .before .good-shape .ensures ∙ ap goodShape held in
+    let needed = p .plane-bytes .ensures ∙ ap planeBytes held in
+    judged (leb (a .shape .layout) 3) _ _ _ (c .test3 .ensures) (c .before .test2 .ensures) (c .before .before .test .ensures)
     ∙ (λ i. lowest ((3, leb (a .shape .layout) 3) ∷ (3, x i && y i) ∷ (4, good i) ∷ (6, leb (needed i) (a .bytes)) ∷ []))
     ∙ read-number (leb (a .shape .layout) 3) (inside (a .shape .width) (a .x) && inside (a .shape .height) (a .y)) (shapeNamed (a .shape)) (a .bytes)
 
@@ -77,5 +87,7 @@ code-no-spec =
     is-inside-requires-2
     good-shape-requires
     plane-bytes-requires
-    lowest-of-requires
+    test-requires
+    test-requires-2
+    test-requires-3
     returns)

@@ -15,7 +15,8 @@ use Rattle.plane.specs.declared.Shape.{Shape}
 use Rattle.plane.specs.Plane.{valueOf}
 use Rattle.plane.specs.Coordinates.{inReach}
 use Rattle.plane.specs.Answer.{sampledNo, sampledValues, atTests}
-use Rattle.desk.specs.Planes.{shapeNamed, atNo}
+use Rattle.numbers.specs.Numbers.{shapeNamed}
+use Rattle.desk.specs.Planes.{atNo}
 use Rattle.desk.proofs.Cut.{read-number, read-value}
 use Rattle.desk.proofs.planes.desk_at.Statement.{statement}
 use Rattle.desk.proofs.planes.desk_at.Tie as tie

@@ -1,4 +1,4 @@
--- `desk::planes::desk_code` meets its contract: where its number is 0 both coordinates are inside a plane within the bounds, so that they fit their
+-- Where the number is 0 both coordinates are inside a plane within the bounds, so that they fit their
 -- places and the cut shape is the shape as given.
 use Prim.Native.Nat.{ℕ, _≤_, _<_}
 use mathlib.Core.Path.{_≡_, refl, sym, ap, subst, _∙_}
@@ -18,8 +18,10 @@ use Rattle.plane.specs.Plane.{goodShape, codeOf}
 use Rattle.plane.specs.Coordinates.{inside}
 use Rattle.plane.proofs.Bounds.{good-within}
 use Rattle.plane.proofs.Coordinates.{both-inside, inside-nonneg, inside-below}
-use Rattle.desk.specs.Planes.{shapeNamed, codeNo}
-use Rattle.desk.proofs.Cut.{cut-same, read-good}
+use Rattle.numbers.specs.Numbers.{shapeNamed}
+use Rattle.desk.specs.Planes.{codeNo}
+use Rattle.numbers.proofs.Cut.{cut-same}
+use Rattle.desk.proofs.Cut.{read-good}
 use Rattle.desk.proofs.planes.desk_code.Statement.{statement}
 use Rattle.desk.proofs.planes.desk_code.Tie as tie
 

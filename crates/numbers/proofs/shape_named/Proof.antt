@@ -1,6 +1,6 @@
 use borrow.Author.Needs.{needs}
-use Rattle.desk.proofs.planes.shape_named.Statement.{statement}
-use Rattle.desk.proofs.planes.shape_named.Tie as tie
+use Rattle.numbers.proofs.shape_named.Statement.{statement}
+use Rattle.numbers.proofs.shape_named.Tie as tie
 
 layout-named-requires : tie.Need-layout-named-requires
 layout-named-requires c κs = search needs

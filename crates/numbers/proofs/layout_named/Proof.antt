@@ -1,6 +1,6 @@
 use borrow.Author.Tests.{eq-eqb, ne-eqb}
-use Rattle.desk.proofs.filters.quality_named.Statement.{statement}
-use Rattle.desk.proofs.filters.quality_named.Tie as tie
+use Rattle.numbers.proofs.layout_named.Statement.{statement}
+use Rattle.numbers.proofs.layout_named.Tie as tie
 
 returns : tie.Need-returns
 returns c = simp (eq-eqb _ _ (c .if1 .taken))
@@ -14,5 +14,5 @@ returns-3 c = simp (ne-eqb _ _ (c .before .before .if1 .left), ne-eqb _ _ (c .be
 returns-4 : tie.Need-returns-4
 returns-4 c = simp (ne-eqb _ _ (c .before .before .if1 .left), ne-eqb _ _ (c .before .if2 .left), ne-eqb _ _ (c .if3 .left))
 
-pub quality-named-spec : {M : Type 1} → statement M
-quality-named-spec = tie.close (tie.spec returns returns-2 returns-3 returns-4)
+pub layout-named-spec : {M : Type 1} → statement M
+layout-named-spec = tie.close (tie.spec returns returns-2 returns-3 returns-4)

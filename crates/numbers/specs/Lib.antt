@@ -1,0 +1,3 @@
+-- What the host's numbers name.
+pub mod Numbers
+pub mod Inner
