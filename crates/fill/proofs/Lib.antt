@@ -5,3 +5,5 @@ pub mod Expanded
 pub mod Places
 pub mod Chosen
 pub mod Tiles
+pub mod Judged
+pub mod Claims

@@ -1,103 +1,96 @@
+use mathlib.Core.Path.{_≡_, sym, _∙_, ap}
+use mathlib.Core.Bool.{Bool, _&&_}
+use Prim.Native.Nat.{ℕ, _+_}
+use lib.Dec.{leb}
+use lib.ListN.{length}
+use denote.Ref.{now}
+use Rattle.laws.proofs.Refusal.{written-done, stays}
+use Rattle.fill.specs.Fill.{partNo}
+use Rattle.fill.proofs.Judged.{number-is, judged}
 use borrow.Author.Needs.{needs}
 use Rattle.fill.proofs.part.Statement.{statement}
 use Rattle.fill.proofs.part.Tie as tie
-use Rattle.fill.proofs.part.Reads as reads
-use Rattle.fill.proofs.part.Lts as lts
-use Rattle.fill.proofs.area.Reads as area-reads
-use Rattle.fill.proofs.lines.Reads as lines-reads
-use Rattle.filter.proofs.planes_alike.Reads as planes-alike-reads
-use Rattle.filter.proofs.planes_good.Reads as planes-good-reads
-use Rattle.filter.proofs.planes_whole.Reads as planes-whole-reads
-use Rattle.filter.proofs.rows_good.Reads as rows-good-reads
-use Rattle.refusal.proofs.test.Reads as test-reads
 
--- src/lib.rt:567:18
+-- the call's number is the definition's
+number :
+    (c : tie.After-test5) →
+    let a = c .before .before .before .before .before .before .before .before .before .before .before .before .before .before .before .before .before .before .before .before .before .args in
+    c .test5 .result ≡ partNo (a .making) (a .place) (length (now (a .before))) (length (now (a .cur))) (length (now (a .after))) (length (now (a .out)))
+number c =
+    let a = c .before .before .before .before .before .before .before .before .before .before .before .before .before .before .before .before .before .before .before .before .before .args in
+    number-is (c .test5 .ensures) (c .before .test4 .ensures) (c .before .before .test3 .ensures) (c .before .before .before .test2 .ensures) (c .before .before .before .before .test .ensures)
+    (ap (λ (b : Bool). b && leb (a .place .top + a .place .height) (a .making .cur .height) && leb (a .place .left + a .place .width) (a .making .cur .width)) (c .before .before .before .before .before .before .before .before .before .before .before .before .before .before .before .rows-good .ensures))
+    (c .before .before .before .before .before .before .planes-good .ensures) (c .before .before .before .before .before .planes-alike .ensures) (c .before .before .before .before .before .before .before .planes-whole .ensures)
+    (ap (λ (n : ℕ). leb n (length (now (a .out)))) (c .before .before .before .before .before .before .before .before .area .ensures))
+
 rows-good-requires : tie.Need-rows-good-requires
 rows-good-requires c κs = search needs
 
--- src/lib.rt:568:13
 cast-inside : tie.Need-cast-inside
 cast-inside c = search needs
 
--- src/lib.rt:568:36
 cast-inside-2 : tie.Need-cast-inside-2
 cast-inside-2 c = search needs
 
--- src/lib.rt:568:12
 add-inside : tie.Need-add-inside
 add-inside c = search needs
 
--- src/lib.rt:568:62
 cast-inside-3 : tie.Need-cast-inside-3
 cast-inside-3 c = search needs
 
--- src/lib.rt:569:13
 cast-inside-4 : tie.Need-cast-inside-4
 cast-inside-4 c = search needs
 
--- src/lib.rt:569:37
 cast-inside-5 : tie.Need-cast-inside-5
 cast-inside-5 c = search needs
 
--- src/lib.rt:569:12
 add-inside-2 : tie.Need-add-inside-2
 add-inside-2 c = search needs
 
--- src/lib.rt:569:62
 cast-inside-6 : tie.Need-cast-inside-6
 cast-inside-6 c = search needs
 
--- src/lib.rt:570:16
 area-requires : tie.Need-area-requires
 area-requires c κs = search needs
 
--- src/lib.rt:571:9
 planes-whole-requires : tie.Need-planes-whole-requires
 planes-whole-requires c κs = search needs
 
--- src/lib.rt:577:13
 planes-good-requires : tie.Need-planes-good-requires
 planes-good-requires c κs = search needs
 
--- src/lib.rt:580:17
 planes-alike-requires : tie.Need-planes-alike-requires
 planes-alike-requires c κs = search needs
 
--- src/lib.rt:584:21
 test-requires : tie.Need-test-requires
 test-requires c κs = search needs
 
--- src/lib.rt:581:17
 test-requires-2 : tie.Need-test-requires-2
 test-requires-2 c κs = search needs
 
--- src/lib.rt:578:13
 test-requires-3 : tie.Need-test-requires-3
 test-requires-3 c κs = search needs
 
--- src/lib.rt:575:9
 test-requires-4 : tie.Need-test-requires-4
 test-requires-4 c κs = search needs
 
--- src/lib.rt:572:9
 test-requires-5 : tie.Need-test-requires-5
 test-requires-5 c κs = search needs
 
--- src/lib.rt:590:9
 lines-requires : tie.Need-lines-requires
-lines-requires c κs = ?
+lines-requires c κs =
+    let n = c .before .before in
+    let a = n .before .before .before .before .before .before .before .before .before .before .before .before .before .before .before .before .before .before .before .before .before .args in
+    judged (a .making) (a .place) _ _ _ _ (sym (number n) ∙ c .before .if1 .taken)
 
--- src/lib.rt:555:1
 same-length : tie.Need-same-length
 same-length c = search needs
 
--- src/lib.rt:555:1
 returns : tie.Need-returns
-returns c = ?
+returns c = (number (c .before .before .before .before .before), written-done _ _ (sym (c .before .before .before .before .if1 .taken)) (c .before .before .lines .ensures))
 
--- src/lib.rt:555:1
 returns-2 : tie.Need-returns-2
-returns-2 c = ?
+returns-2 c = (number (c .before), stays _ _ (c .if1 .left))
 
 pub part-spec : {M : Type 1} → statement M
 part-spec =
