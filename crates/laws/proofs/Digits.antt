@@ -1,10 +1,12 @@
 -- A number by its digits to a base.
-use Prim.Native.Nat.{ℕ, zero, suc, _+_, _*_, _/_, _%_, _<_, _^_}
+use Prim.Native.Nat.{ℕ, zero, suc, _+_, _*_, _/_, _%_, _≤_, _<_, _^_}
 use mathlib.Core.Path.{_≡_, sym, ap, _∙_}
-use native.Mathlib.Nat.{pow-zero, pow-suc, one-le-pow, div-div-eq-div-mul, div-one, mod-one, mul-comm, add-comm}
+use native.Mathlib.Nat.{pow-zero, pow-suc, one-le-pow, div-div-eq-div-mul, div-one, mod-one, mul-comm, add-comm, suc-mul, mul-le-mul-right}
 use native.Mathlib.Numerals.{add-one}
+use native.Mathlib.Omega.{arith}
 use lib.Arith.{mod-mul}
+use lib.Dec.{lit<}
 use Rattle.laws.specs.Sums.{sumOver}
 
 -- what is left of a number after one digit more
 pub next-digit : (n base i : ℕ) → n / base ^ i / base ≡ n / base ^ (i + 1)
@@ -22,3 +24,12 @@ sum-of-digits n base pos (suc k) =
     ∙ add-comm (n % base ^ k) (n / base ^ k % base * base ^ k)
     ∙ sym (mod-mul n pos (one-le-pow k base pos))
     ∙ ap (λ (p : ℕ). n % p) (mul-comm base (base ^ k) ∙ sym (pow-suc base k))
+
+-- digits below their base make up a number below the base's power
+pub digits-below : (base : ℕ) (f : ℕ → ℕ) → ((i : ℕ) → f i < base) → (k : ℕ) → sumOver k (λ i. f i * base ^ i) < base ^ k
+unfolding sumOver
+digits-below base f small zero = rw (pow-zero base) (lit< tt)
+digits-below base f small (suc k) =
+    let lower = digits-below base f small k in
+    let upper : suc (f k) * base ^ k ≤ base * base ^ k = mul-le-mul-right (base ^ k) (small k) in
+    rw (pow-suc base k, mul-comm (base ^ k) base) (omega (arith, lower, upper, suc-mul (f k) (base ^ k)))
