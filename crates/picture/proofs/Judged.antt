@@ -23,11 +23,11 @@ use Rattle.colour.specs.Colour.{goodConversion}
 use Rattle.fill.specs.Band.{bandNo}
 use Rattle.picture.specs.declared.Recipe.{Recipe}
 use Rattle.picture.specs.Picture.{Frame, frameOf, goodShapes, chromaFits, lent, served, pictureTests, pictureNo}
-use Rattle.picture.specs.Inner.{recipeOf, Trio, Makeable, Paintable}
+use Rattle.picture.specs.Inner.{recipeOf, Serving, Makeable, Paintable}
 
 -- ---- a band of planes that were judged
 pub band-done :
-    {m : Making} {t : Trio} (from count room : ℕ) → Makeable m t → from + count ≤ m .cur .height → count * m .cur .width ≤ room →
+    {m : Making} {t : Serving} (from count room : ℕ) → Makeable m t → from + count ≤ m .cur .height → count * m .cur .width ≤ room →
     bandNo (m .rows) (m .before) (length (t .before)) (m .cur) (length (t .cur)) (m .after) (length (t .after)) from count room ≡ 0
 unfolding lowest
 band-done {m} {t} from count room j inside fits =
@@ -123,7 +123,7 @@ both : {a b : Bool} → a ≡ true → b ≡ true → (a && b) ≡ true
 both {a} {b} p q = ap₂ (λ (x y : Bool). x && y) p q
 
 makeable :
-    {m : Making} {t : Trio} → goodRows (m .rows) ≡ true → Fits (m .before) (length (t .before)) (m .cur) → Fits (m .cur) (length (t .cur)) (m .cur) →
+    {m : Making} {t : Serving} → goodRows (m .rows) ≡ true → Fits (m .before) (length (t .before)) (m .cur) → Fits (m .cur) (length (t .cur)) (m .cur) →
     Fits (m .after) (length (t .after)) (m .cur) → Makeable m t
 makeable g b c a = record {
   asked = g;
@@ -133,13 +133,13 @@ makeable g b c a = record {
 }
 
 -- ---- the whole call
-abbrev pub lumas : Frame → Frame → Frame → Trio
+abbrev pub lumas : Frame → Frame → Frame → Serving
 lumas before cur after = record { before = before .luma; cur = cur .luma; after = after .luma }
 
-abbrev pub cbs : Frame → Frame → Frame → Trio
+abbrev pub cbs : Frame → Frame → Frame → Serving
 cbs before cur after = record { before = before .cb; cur = cur .cb; after = after .cb }
 
-abbrev pub crs : Frame → Frame → Frame → Trio
+abbrev pub crs : Frame → Frame → Frame → Serving
 crs before cur after = record { before = before .cr; cur = cur .cr; after = after .cr }
 
 module _ (conversion : Conversion) (quality : Quality) (rows : Rows) (asked : goodRows rows ≡ true) (before cur after : Frame) where
@@ -198,7 +198,7 @@ module _ (conversion : Conversion) (previous current next : Frame) (room : ℕ) 
 
 -- whatever those are
 pub paintable-for :
-    {r r′ : Recipe} {l l′ b b′ c c′ : Trio} → r′ ≡ r → l′ ≡ l → b′ ≡ b → c′ ≡ c → Paintable r l b c → Paintable r′ l′ b′ c′
+    {r r′ : Recipe} {l l′ b b′ c c′ : Serving} → r′ ≡ r → l′ ≡ l → b′ ≡ b → c′ ≡ c → Paintable r l b c → Paintable r′ l′ b′ c′
 paintable-for {r} {r′} {l} {l′} {b} {b′} {c} {c′} er el eb ec p =
     subst (λ (x : Recipe). Paintable x l′ b′ c′) (sym er)
-    (subst (λ (x : Trio). Paintable r x b′ c′) (sym el) (subst (λ (x : Trio). Paintable r l x c′) (sym eb) (subst (Paintable r l b) (sym ec) p)))
+    (subst (λ (x : Serving). Paintable r x b′ c′) (sym el) (subst (λ (x : Serving). Paintable r l x c′) (sym eb) (subst (Paintable r l b) (sym ec) p)))

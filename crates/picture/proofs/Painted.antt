@@ -15,7 +15,7 @@ use Rattle.colour.specs.declared.Conversion.{Conversion}
 use Rattle.colour.specs.Colour.{convertedOf}
 use Rattle.picture.specs.declared.Recipe.{Recipe}
 use Rattle.picture.specs.Picture.{Frame, pixelOf, colourAt, pixelRow, pixelRows}
-use Rattle.picture.specs.Inner.{recipeOf, Trio, Paintable, sampleAt, lineIn, bandIn, rowIn, rowsIn, cut, paintedRow, paintedAt}
+use Rattle.picture.specs.Inner.{recipeOf, Serving, Paintable, sampleAt, lineIn, bandIn, rowIn, rowsIn, cut, paintedRow, paintedAt}
 use Rattle.picture.proofs.Judged.{lumas, cbs, crs}
 
 -- ---- lengths
@@ -28,13 +28,13 @@ length-painted conversion width luma cb cr = length-pixels width _ (λ x. refl)
 
 -- ---- row y of a band
 cut-band :
-    (m : Making) (t : Trio) (from count y : ℕ) (samples old : List Float) → y < count → samples ≡ over (bandIn m t from count) old →
+    (m : Making) (t : Serving) (from count y : ℕ) (samples old : List Float) → y < count → samples ≡ over (bandIn m t from count) old →
     cut samples (m .cur .width) y ≡ lineIn m t (m .cur .width) (from + y)
 cut-band m t from count y samples old l e =
     ap (λ (s : List Float). cut s (m .cur .width) y) e
     ∙ cut-row (λ (n : ℕ). lineIn m t (m .cur .width) (from + n)) (m .cur .width) (λ n. length-listed (m .cur .width) _) count y _ l
 
-module _ (r : Recipe) (luma cb cr : Trio) where
+module _ (r : Recipe) (luma cb cr : Serving) where
   abbrev w : ℕ
   w = r .luma .cur .width
 

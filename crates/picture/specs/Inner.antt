@@ -43,29 +43,29 @@ recipeFor asked =
     (served (asked .output .after) (asked .previous) (asked .current) (asked .next))
 
 -- the bytes of one plane, in the frames that serve as before, cur and after
-pub record Trio : Type 0 where
+pub record Serving : Type 0 where
   pub before : List ℕ
   pub cur : List ℕ
   pub after : List ℕ
 
 -- of what is lent: as it is, and as it was at the start of a call
-abbrev pub trioIn : RefT (List ℕ) → RefT (List ℕ) → RefT (List ℕ) → Trio
-trioIn before cur after = record { before = now before; cur = now cur; after = now after }
+abbrev pub servingIn : RefT (List ℕ) → RefT (List ℕ) → RefT (List ℕ) → Serving
+servingIn before cur after = record { before = now before; cur = now cur; after = now after }
 
-abbrev pub trio : {A B C : Type 0} → Both (RefT (List ℕ)) A → Both (RefT (List ℕ)) B → Both (RefT (List ℕ)) C → Trio
-trio before cur after = trioIn (before .entry) (cur .entry) (after .entry)
+abbrev pub serving : {A B C : Type 0} → Both (RefT (List ℕ)) A → Both (RefT (List ℕ)) B → Both (RefT (List ℕ)) C → Serving
+serving before cur after = servingIn (before .entry) (cur .entry) (after .entry)
 
 -- ---- what was judged before a row is made
 
 -- three planes of which any band can be made that lies within and has room
-pub record Makeable (m : Making) (t : Trio) : Type 0 where
+pub record Makeable (m : Making) (t : Serving) : Type 0 where
   pub asked : goodRows (m .rows) ≡ true
   pub good : planesGood m ≡ true
   pub alike : (agree (m .before) (m .cur) && agree (m .after) (m .cur)) ≡ true
   pub whole : planesWhole m (length (t .before)) (length (t .cur)) (length (t .after)) ≡ true
 
 -- three frames of such planes, with chroma of half size
-pub record Paintable (r : Recipe) (luma cb cr : Trio) : Type 0 where
+pub record Paintable (r : Recipe) (luma cb cr : Serving) : Type 0 where
   pub lumas : Makeable (r .luma) luma
   pub cbs : Makeable (r .cb) cb
   pub crs : Makeable (r .cr) cr
@@ -78,21 +78,21 @@ pub record Paintable (r : Recipe) (luma cb cr : Trio) : Type 0 where
 
 -- ---- what is made
 
-abbrev pub sampleAt : Making → Trio → ℕ → ℕ → Float
+abbrev pub sampleAt : Making → Serving → ℕ → ℕ → Float
 sampleAt m t x y = sampleIn m (t .before) (t .cur) (t .after) (pos x) (pos y)
 
-abbrev pub lineIn : Making → Trio → ℕ → ℕ → List Float
+abbrev pub lineIn : Making → Serving → ℕ → ℕ → List Float
 lineIn m t width y = listed width (λ x. sampleAt m t x y)
 
-abbrev pub bandIn : Making → Trio → ℕ → ℕ → List Float
+abbrev pub bandIn : Making → Serving → ℕ → ℕ → List Float
 bandIn m t from count = laid count (λ y. lineIn m t (m .cur .width) (from + y))
 
-unfoldable pub rowIn : Recipe → Trio → Trio → Trio → ℕ → List ℕ
+unfoldable pub rowIn : Recipe → Serving → Serving → Serving → ℕ → List ℕ
 rowIn r luma cb cr y =
     laid (r .luma .cur .width)
     (λ x. pixelOf (convertedOf (r .conversion) (sampleAt (r .luma) luma x y) (sampleAt (r .cb) cb (x / 2) (y / 2)) (sampleAt (r .cr) cr (x / 2) (y / 2))))
 
-abbrev pub rowsIn : Recipe → Trio → Trio → Trio → List ℕ
+abbrev pub rowsIn : Recipe → Serving → Serving → Serving → List ℕ
 rowsIn r luma cb cr = laid (r .luma .cur .height) (rowIn r luma cb cr)
 
 -- places for the samples of eight rows of luma, and of the four rows of cb and of cr that belong to them

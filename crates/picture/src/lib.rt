@@ -11,7 +11,7 @@ ghost use lib.ListN.{length, take, drop};
 ghost use Rattle.laws.specs.Rows.{laid, over};
 ghost use Rattle.plane.specs.Plane.{half};
 ghost use Rattle.picture.specs.Picture.{goodShapes, chromaFits, wholeFrame, served, qualityFor, pixelOf, framesLent, askedNo, askedOut};
-ghost use Rattle.picture.specs.Inner.{makingOf, recipeFor, trioIn, trio, Makeable, Paintable, Rooms, bandIn, rowIn, rowsIn, paintedRow, paintedAt};
+ghost use Rattle.picture.specs.Inner.{makingOf, recipeFor, servingIn, serving, Makeable, Paintable, Rooms, bandIn, rowIn, rowsIn, paintedRow, paintedAt};
 
 // What is asked for: the picture of which `output` says what is shown. `current` is the frame itself, and
 // `previous` and `next` are those at its sides.
@@ -136,9 +136,9 @@ fn samples(
     from: u16,
     count: u16,
 )
-    requires { ⌜ Makeable making (trioIn before cur after) ⌝ }
+    requires { ⌜ Makeable making (servingIn before cur after) ⌝ }
     requires { ⌜ (from + count ≤ making .cur .height) × (count * making .cur .width ≤ length (now out)) ⌝ }
-    ensures { λ _. ⌜ now (out .exit) ≡ over (bandIn making (trio before cur after) from count) (now (out .entry)) ⌝ }
+    ensures { λ _. ⌜ now (out .exit) ≡ over (bandIn making (serving before cur after) from count) (now (out .entry)) ⌝ }
 {
     let quality = making.quality;
     let rows = making.rows;
@@ -176,10 +176,10 @@ fn paint_group(
     cb: &mut [f32],
     cr: &mut [f32],
 )
-    requires { ⌜ Paintable recipe (trioIn «before_luma» «cur_luma» «after_luma») (trioIn «before_cb» «cur_cb» «after_cb») (trioIn «before_cr» «cur_cr» «after_cr») ⌝ }
+    requires { ⌜ Paintable recipe (servingIn «before_luma» «cur_luma» «after_luma») (servingIn «before_cb» «cur_cb» «after_cb») (servingIn «before_cr» «cur_cr» «after_cr») ⌝ }
     requires { ⌜ (from % 2 ≡ 0) × (from + count ≤ recipe .luma .cur .height) × (count ≤ 8) × (length (now out) ≡ count * (recipe .luma .cur .width * 4)) ⌝ }
     requires { ⌜ Rooms (now luma) (now cb) (now cr) ⌝ }
-    ensures { λ _. ⌜ now (out .exit) ≡ laid count (λ y. rowIn recipe (trio «before_luma» «cur_luma» «after_luma») (trio «before_cb» «cur_cb» «after_cb») (trio «before_cr» «cur_cr» «after_cr») (from + y)) ⌝ }
+    ensures { λ _. ⌜ now (out .exit) ≡ laid count (λ y. rowIn recipe (serving «before_luma» «cur_luma» «after_luma») (serving «before_cb» «cur_cb» «after_cb») (serving «before_cr» «cur_cr» «after_cr») (from + y)) ⌝ }
 {
     let making = recipe.luma;
     let shape = making.cur;
@@ -239,10 +239,10 @@ fn paint_groups(
     cb: &mut [f32],
     cr: &mut [f32],
 )
-    requires { ⌜ Paintable recipe (trioIn «before_luma» «cur_luma» «after_luma») (trioIn «before_cb» «cur_cb» «after_cb») (trioIn «before_cr» «cur_cr» «after_cr») ⌝ }
+    requires { ⌜ Paintable recipe (servingIn «before_luma» «cur_luma» «after_luma») (servingIn «before_cb» «cur_cb» «after_cb») (servingIn «before_cr» «cur_cr» «after_cr») ⌝ }
     requires { ⌜ recipe .luma .cur .height * (recipe .luma .cur .width * 4) ≤ length (now out) ⌝ }
     requires { ⌜ Rooms (now luma) (now cb) (now cr) ⌝ }
-    ensures { λ _. ⌜ now (out .exit) ≡ over (rowsIn recipe (trio «before_luma» «cur_luma» «after_luma») (trio «before_cb» «cur_cb» «after_cb») (trio «before_cr» «cur_cr» «after_cr»)) (now (out .entry)) ⌝ }
+    ensures { λ _. ⌜ now (out .exit) ≡ over (rowsIn recipe (serving «before_luma» «cur_luma» «after_luma») (serving «before_cb» «cur_cb» «after_cb») (serving «before_cr» «cur_cr» «after_cr»)) (now (out .entry)) ⌝ }
 {
     let making = recipe.luma;
     let shape = making.cur;
@@ -287,9 +287,9 @@ fn paint(
     cur_cr: &[u8],
     after_cr: &[u8],
 )
-    requires { ⌜ Paintable recipe (trioIn «before_luma» «cur_luma» «after_luma») (trioIn «before_cb» «cur_cb» «after_cb») (trioIn «before_cr» «cur_cr» «after_cr») ⌝ }
+    requires { ⌜ Paintable recipe (servingIn «before_luma» «cur_luma» «after_luma») (servingIn «before_cb» «cur_cb» «after_cb») (servingIn «before_cr» «cur_cr» «after_cr») ⌝ }
     requires { ⌜ recipe .luma .cur .height * (recipe .luma .cur .width * 4) ≤ length (now out) ⌝ }
-    ensures { λ _. ⌜ now (out .exit) ≡ over (rowsIn recipe (trio «before_luma» «cur_luma» «after_luma») (trio «before_cb» «cur_cb» «after_cb») (trio «before_cr» «cur_cr» «after_cr»)) (now (out .entry)) ⌝ }
+    ensures { λ _. ⌜ now (out .exit) ≡ over (rowsIn recipe (serving «before_luma» «cur_luma» «after_luma») (serving «before_cb» «cur_cb» «after_cb») (serving «before_cr» «cur_cr» «after_cr»)) (now (out .entry)) ⌝ }
 {
     let mut luma = [0.0f32; 65536];
     let mut cb = [0.0f32; 16384];

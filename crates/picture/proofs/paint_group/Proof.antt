@@ -6,7 +6,7 @@ use borrow.Author.Needs.{needs}
 use denote.Ref.{now}
 use Rattle.plane.specs.Plane.{half}
 use Rattle.picture.specs.declared.Recipe.{Recipe}
-use Rattle.picture.specs.Inner.{Trio, trioIn, Paintable}
+use Rattle.picture.specs.Inner.{Serving, servingIn, Paintable}
 use Rattle.picture.proofs.Painted.{group-rows}
 use Rattle.picture.proofs.paint_group.Statement.{statement}
 use Rattle.picture.proofs.paint_group.Tie as tie
@@ -15,14 +15,14 @@ use Rattle.picture.proofs.paint_group.Tie as tie
 abbrev entry : tie.After-conversion → tie.Start
 entry s = s .before .before .before .before .before .before .before .before .before .before .before .before .before .before .before .before
 
-abbrev lumas : tie.After-conversion → Trio
-lumas s = let a = entry s .args in trioIn (a .before-luma) (a .cur-luma) (a .after-luma)
+abbrev lumas : tie.After-conversion → Serving
+lumas s = let a = entry s .args in servingIn (a .before-luma) (a .cur-luma) (a .after-luma)
 
-abbrev cbs : tie.After-conversion → Trio
-cbs s = let a = entry s .args in trioIn (a .before-cb) (a .cur-cb) (a .after-cb)
+abbrev cbs : tie.After-conversion → Serving
+cbs s = let a = entry s .args in servingIn (a .before-cb) (a .cur-cb) (a .after-cb)
 
-abbrev crs : tie.After-conversion → Trio
-crs s = let a = entry s .args in trioIn (a .before-cr) (a .cur-cr) (a .after-cr)
+abbrev crs : tie.After-conversion → Serving
+crs s = let a = entry s .args in servingIn (a .before-cr) (a .cur-cr) (a .after-cr)
 
 -- that the bands lie within, and have room
 record Within (r : Recipe) (from count : ℕ) : Type 0 where
@@ -35,7 +35,7 @@ record Within (r : Recipe) (from count : ℕ) : Type 0 where
   chroma-room : half count * half (r .luma .cur .width) ≤ 16384
 
 bands-within :
-    {r : Recipe} {luma cb cr : Trio} (from count : ℕ) → Paintable r luma cb cr → from % 2 ≡ 0 → from + count ≤ r .luma .cur .height → count ≤ 8 →
+    {r : Recipe} {luma cb cr : Serving} (from count : ℕ) → Paintable r luma cb cr → from % 2 ≡ 0 → from + count ≤ r .luma .cur .height → count ≤ 8 →
     Within r from count
 bands-within {r} from count p even inside few =
     let chroma-inside : from / 2 + half count ≤ half (r .luma .cur .height) = omega arith in

@@ -7,7 +7,7 @@ use borrow.Author.Needs.{needs}
 use lib.ListN.{length}
 use Rattle.laws.proofs.Lists.{Stacked, stack-starts, stacks-rows, stack-ends}
 use Rattle.laws.proofs.Rows.{length-part}
-use Rattle.picture.specs.Inner.{trioIn, Rooms, rowIn}
+use Rattle.picture.specs.Inner.{servingIn, Rooms, rowIn}
 use Rattle.picture.proofs.Painted.{length-row}
 use Rattle.picture.proofs.paint_groups.Statement.{statement}
 use Rattle.picture.proofs.paint_groups.Tie as tie
@@ -32,8 +32,8 @@ entry l = l .before .before .before .before .before .before .before .before .bef
 abbrev row-of : tie.At-loop Inv-loop μ-loop → ℕ → List ℕ
 row-of l =
     let a = entry l .args in
-    rowIn (a .recipe) (trioIn (a .before-luma) (a .cur-luma) (a .after-luma)) (trioIn (a .before-cb) (a .cur-cb) (a .after-cb))
-    (trioIn (a .before-cr) (a .cur-cr) (a .after-cr))
+    rowIn (a .recipe) (servingIn (a .before-luma) (a .cur-luma) (a .after-luma)) (servingIn (a .before-cb) (a .cur-cb) (a .after-cb))
+    (servingIn (a .before-cr) (a .cur-cr) (a .after-cr))
 
 row-long : (l : tie.At-loop Inv-loop μ-loop) (y : ℕ) → length (row-of l y) ≡ entry l .args .recipe .luma .cur .width * 4
 row-long l y = length-row _ _ _ _ y
