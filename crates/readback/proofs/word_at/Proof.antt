@@ -2,8 +2,8 @@ use Prim.Native.Nat.{_+_, _*_, _/_, _^_}
 use native.Mathlib.Nat.{div-le-self}
 use native.Mathlib.Omega.{arith}
 use borrow.Author.Needs.{needs}
-use Rattle.readback.proofs.code_at.Statement.{statement}
-use Rattle.readback.proofs.code_at.Tie as tie
+use Rattle.readback.proofs.word_at.Statement.{statement}
+use Rattle.readback.proofs.word_at.Tie as tie
 
 shared-slice-read-wide : tie.Need-shared-slice-read-wide
 shared-slice-read-wide c = search needs
@@ -37,8 +37,8 @@ returns c =
       omega (arith, div-le-self stored (2 ^ right)),
     )
 
-pub code-at-spec : {M : Type 1} → statement M
-code-at-spec =
+pub word-at-spec : {M : Type 1} → statement M
+word-at-spec =
     tie.close
     (tie.spec
     shared-slice-read-wide
