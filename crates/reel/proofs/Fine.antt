@@ -4,7 +4,7 @@ use native.Mathlib.Nat.{le-trans, mul-le-mul}
 use native.Mathlib.Omega.{arith}
 use mathlib.Core.Path.{_≡_, sym}
 use mathlib.Core.Bool.{Bool, true, false, cond, _||_, true≢false}
-use mathlib.Core.List.{List, [], _∷_}
+use mathlib.Core.List.{List}
 use lib.Dec.{eqb, leb}
 use borrow.Author.Tests.{ne-eqb}
 use Rattle.laws.specs.Refusal.{lowest, rising}
@@ -14,7 +14,6 @@ use Rattle.plane.specs.declared.Layout.{Layout}
 use Rattle.plane.specs.declared.Layout.the-variants.{Planar, Luma, First, Second}
 use Rattle.plane.specs.Plane.{components, rowBytes, goodShape, gridShape}
 use Rattle.plane.proofs.Bounds.{good-within}
-use Rattle.entry.specs.Entry.{wordAt}
 use Rattle.reel.specs.declared.Pictured.{Pictured}
 use Rattle.reel.specs.Reel.{shapeIn, shapeTests, picturedIn, noPictured, pictureBytes, pictureCountTests}
 

@@ -15,7 +15,7 @@ use Rattle.weaver.specs.declared.Time.the-variants as time
 use Rattle.weaver.specs.declared.Weaver.{Weaver}
 use Rattle.weaver.specs.Weaver.{emptyWeaver, pushWeaver, pushStore}
 use Rattle.weaver.specs.History as calls
-use Rattle.weaver.proofs.Held as weaver-held
+use Rattle.weaver.proofs.Reached as weaver
 use Rattle.weavedesk.specs.Woven.{fieldNamed}
 use Rattle.weavedesk.specs.Waiting.{wholeSize, weaverNumbers, weaverIn, keeping}
 use Rattle.weavedesk.specs.Push.{Lent, Offer, newNo, clearNo, emptied, parityIn, timeIn, given, weaverOf, pushNo, weaverAfter, stateAfter, storeAfter}
@@ -138,7 +138,7 @@ module _ (state store : List ℕ) (room : 56 ≤ length state) where
         found = l .store;
         long =
             ap (λ (s : calls.State). length (s .store)) (f .carries .same)
-            ∙ weaver-held.any-held (f .found) (callsOf earlier) .long
+            ∙ weaver.any-reached (f .found) (callsOf earlier) .long
             ∙ f .long;
         carries = new-carries l (f .carries .room);
       }
