@@ -5,8 +5,8 @@ use mathlib.Core.List.{List, _∷_}
 use lib.Dec.{leb}
 use lib.IntN.{ℤ}
 use lib.Ieee.{Float}
-use denote.Ref.{RefT, now}
-use denote.Triple.Both.{Both}
+use denote.Ref.{now}
+use Rattle.laws.specs.Contracts.{Slice}
 use Rattle.laws.specs.Refusal.{lowest}
 use Rattle.filter.specs.declared.Rows.{Rows}
 use Rattle.filter.specs.declared.Making.{Making}
@@ -49,9 +49,7 @@ sampleNo quality rows before cur after before-bytes cur-bytes after-bytes x y =
     lowest (sampleTests quality rows before cur after before-bytes cur-bytes after-bytes x y)
 
 -- the value, of the planes as the call finds them
-abbrev pub sampleNamed :
-    {A B C : Type 0} → ℕ → Rows → PlaneNumbers → PlaneNumbers → PlaneNumbers → Both (RefT (List ℕ)) A → Both (RefT (List ℕ)) B → Both (RefT (List ℕ)) C
-    → ℤ → ℤ → Float
+abbrev pub sampleNamed : {A B C : Type 0} → ℕ → Rows → PlaneNumbers → PlaneNumbers → PlaneNumbers → Slice A → Slice B → Slice C → ℤ → ℤ → Float
 sampleNamed quality rows before-shape cur-shape after-shape before cur after x y =
     sampleIn (makingNamed quality rows before-shape cur-shape after-shape) (now (before .entry)) (now (cur .entry)) (now (after .entry)) x y
 
@@ -66,8 +64,6 @@ planeNo quality first before cur after before-bytes cur-bytes after-bytes room =
     lowest (planeTests quality first before cur after before-bytes cur-bytes after-bytes room)
 
 -- the samples, of the planes as the call finds them
-abbrev pub planeNamed :
-    {A B C : Type 0} → ℕ → ℕ → PlaneNumbers → PlaneNumbers → PlaneNumbers → Both (RefT (List ℕ)) A → Both (RefT (List ℕ)) B → Both (RefT (List ℕ)) C
-    → List Float
+abbrev pub planeNamed : {A B C : Type 0} → ℕ → ℕ → PlaneNumbers → PlaneNumbers → PlaneNumbers → Slice A → Slice B → Slice C → List Float
 planeNamed quality first before-shape cur-shape after-shape before cur after =
     planeMade (makingNamed quality (fieldRowsOf first) before-shape cur-shape after-shape) (now (before .entry)) (now (cur .entry)) (now (after .entry))
