@@ -1,7 +1,7 @@
 -- The rows a field lacks, by number (docs/RULES.md, "Rows a field lacks").
 use Prim.Native.Nat.{ℕ}
 use mathlib.Core.Bool.{Bool, _&&_}
-use mathlib.Core.List.{List, [], _∷_}
+use mathlib.Core.List.{List, _∷_}
 use lib.Dec.{leb}
 use lib.IntN.{ℤ}
 use lib.Ieee.{Float}
