@@ -5,7 +5,7 @@ use mathlib.Core.Bool.{_&&_}
 use lib.Dec.{leb}
 use lib.ListN.{length}
 use denote.Ref.{now}
-use Rattle.laws.specs.Refusal.{lowest, written}
+use Rattle.laws.specs.Refusal.{lowest}
 use Rattle.laws.specs.Rows.{over}
 use Rattle.laws.proofs.Refusal.{number-behind, written-alike}
 use Rattle.filter.specs.declared.Making.{Making}
