@@ -239,11 +239,10 @@ fn push_counts(state: &mut [u8], first: Parity, measured: Measured) -> Answer
     let seen = telecine::seen_measured(last, first, measured);
     let stepped = telecine::step(&mut ring, course, last, first, seen);
     let after = stepped.course;
-    let led = stepped.last;
     let answer = stepped.answer;
     match answer {
         Answer::Gave(found) => {
-            keep_apart(state, &ring, after, kept, led);
+            keep_apart(state, &ring, after, kept, Chosen::Field(first));
             Answer::Gave(found)
         }
         Answer::Refused(no) => Answer::Refused(no),
