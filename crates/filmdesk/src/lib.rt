@@ -323,8 +323,8 @@ pub extern "C" fn desk_cadences(entries: &[u8], out: &mut [u8]) -> u8
     ensures { λ r. ⌜ r ≡ cadencesNo (now (entries .entry)) (length (now (out .entry))) ⌝ }
     ensures { λ r. ⌜ now (out .exit) ≡ written r (over (cadencesOf (now (entries .entry))) (now (out .entry))) (now (out .entry)) ⌝ }
 {
-    let number = entry::cadences(out, entries);
-    number
+    let got = entry::cadences(out, entries);
+    got
 }
 
 // A fresh detector at the start of `state`. Number 7.
