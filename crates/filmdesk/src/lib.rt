@@ -239,11 +239,10 @@ fn push_counts(state: &mut [u8], first: Parity, measured: Measured) -> Answer
     let seen = telecine::seen_measured(last, first, measured);
     let stepped = telecine::step(&mut ring, course, last, first, seen);
     let after = stepped.course;
-    let led = stepped.last;
     let answer = stepped.answer;
     match answer {
         Answer::Gave(found) => {
-            keep_apart(state, &ring, after, kept, led);
+            keep_apart(state, &ring, after, kept, Chosen::Field(first));
             Answer::Gave(found)
         }
         Answer::Refused(no) => Answer::Refused(no),
@@ -324,8 +323,8 @@ pub extern "C" fn desk_cadences(entries: &[u8], out: &mut [u8]) -> u8
     ensures { λ r. ⌜ r ≡ cadencesNo (now (entries .entry)) (length (now (out .entry))) ⌝ }
     ensures { λ r. ⌜ now (out .exit) ≡ written r (over (cadencesOf (now (entries .entry))) (now (out .entry))) (now (out .entry)) ⌝ }
 {
-    let number = entry::cadences(out, entries);
-    number
+    let got = entry::cadences(out, entries);
+    got
 }
 
 // A fresh detector at the start of `state`. Number 7.

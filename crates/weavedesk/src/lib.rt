@@ -155,6 +155,7 @@ fn time_in(kind: u64, size: u64) -> Time
     }
 }
 
+// Of a parity 0 is top, and every other number bottom, so that all bytes are some weaver.
 fn weaver_in(state: &[u8]) -> Weaver
     ensures { λ r. ⌜ r ≡ weaverIn (now (state .entry)) ⌝ }
 {
