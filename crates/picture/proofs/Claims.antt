@@ -17,19 +17,23 @@ use Rattle.colour.proofs.Claims.{converted-in-unit}
 use Rattle.picture.specs.Picture.{Frame, pictureTests, lumaIn, cbIn, crIn, colourAt, pixelOf, pixelRow, pixelRows}
 use Rattle.picture.specs.Claims.{PictureSays, PictureSize, Opaque, Bytes, PixelsInUnit}
 use Rattle.picture.proofs.Judged.{good-colours}
-use Rattle.picture.proofs.Painted.{length-row}
+use Rattle.picture.proofs.Painted.{length-pixels}
 use Rattle.picture.proofs.Values.{value-small, sample-small, served-bytes}
 
 pub picture-says : PictureSays
 unfolding rising
-picture-says conversion previous current following room = lowest-says (pictureTests conversion previous current following room) tt
+picture-says conversion previous current next room = lowest-says (pictureTests conversion previous current next room) tt
 
 module _ (conversion : Conversion) (quality : Quality) (rows : Rows) (before cur after : Frame) where
+  length-row : (width y : ℕ) → length (pixelRow conversion quality rows before cur after width y) ≡ width * 4
+  unfolding pixelRow
+  length-row width y = length-pixels width _ (λ x. refl)
+
   size : length (pixelRows conversion quality rows before cur after) ≡ cur .shapes .luma .height * (cur .shapes .luma .width * 4)
   unfolding pixelRows
   size =
       length-laid (pixelRow conversion quality rows before cur after (cur .shapes .luma .width)) (cur .shapes .luma .width * 4)
-      (length-row conversion quality rows before cur after (cur .shapes .luma .width)) (cur .shapes .luma .height)
+      (length-row (cur .shapes .luma .width)) (cur .shapes .luma .height)
 
   -- alpha in a row, and in the rows
   alpha-in-row : (width x y : ℕ) → x < width → getD (pixelRow conversion quality rows before cur after width y) (x * 4 + 3) 0 ≡ 255
@@ -42,7 +46,7 @@ module _ (conversion : Conversion) (quality : Quality) (rows : Rows) (before cur
   unfolding pixelRows
   alpha x y l m =
       laid-at (pixelRow conversion quality rows before cur after (cur .shapes .luma .width)) (cur .shapes .luma .width * 4)
-      (length-row conversion quality rows before cur after (cur .shapes .luma .width)) (cur .shapes .luma .height) (x * 4 + 3) y 0 (omega arith) m
+      (length-row (cur .shapes .luma .width)) (cur .shapes .luma .height) (x * 4 + 3) y 0 (omega arith) m
       ∙ alpha-in-row (cur .shapes .luma .width) x y l
 
   -- a colour of bytes
@@ -58,12 +62,12 @@ module _ (conversion : Conversion) (quality : Quality) (rows : Rows) (before cur
       (value-small (cur .cr) (c .cr) (cur .shapes .cr)) (value-small (after .cr) (a .cr) (after .shapes .cr)) (pos (x / 2)) (pos (y / 2)) quality)
 
 pub picture-size : PictureSize
-picture-size quality output conversion previous current following = size _ _ _ _ _ _
+picture-size quality output conversion previous current next = size _ _ _ _ _ _
 
 pub opaque : Opaque
-opaque quality output conversion previous current following = alpha _ _ _ _ _ _
+opaque quality output conversion previous current next = alpha _ _ _ _ _ _
 
 pub pixels-in-unit : PixelsInUnit
-pixels-in-unit quality output conversion previous current following room x y p c f done =
-    in-unit _ _ _ _ _ _ (good-colours conversion previous current following room done) (served-bytes (output .before) previous current following p c f) c
-    (served-bytes (output .after) previous current following p c f) x y
+pixels-in-unit quality output conversion previous current next room x y p c f done =
+    in-unit _ _ _ _ _ _ (good-colours conversion previous current next room done) (served-bytes (output .before) previous current next p c f) c
+    (served-bytes (output .after) previous current next p c f) x y

@@ -1,62 +1,41 @@
 -- What a call of `picture_of` that gets 0 has shown: any two of its three frames may serve beside the current one, and every band of theirs that
 -- lies within and has room gets 0 too.
-use mathlib.Core.Path.{_≡_, refl, sym, ap, ap₂, _∙_}
+use mathlib.Core.Path.{_≡_, refl, sym, ap, ap₂, subst, _∙_}
 use mathlib.Core.Bool.{Bool, true, _&&_}
 use Prim.Native.Nat.{ℕ, _+_, _*_, _≤_}
 use borrow.Author.Tests.{leb-true, eqb-true, eq-eqb, le-leb}
-use lib.Dec.{leb, eqb, lit<}
+use lib.Dec.{leb, eqb}
 use lib.ListN.{length}
-use Rattle.laws.specs.Refusal.{lowest, written}
-use Rattle.laws.proofs.Refusal.{first-passes, rest-passes}
+use Rattle.laws.specs.Refusal.{lowest, written, rising}
+use Rattle.laws.proofs.Refusal.{AllPass, all-pass}
 use Rattle.field.specs.declared.Source.{Source}
 use Rattle.field.specs.declared.Source.the-variants as source
 use Rattle.plane.specs.declared.Shape.{Shape}
 use Rattle.plane.specs.Plane.{goodShape, planeBytes, agree, half, chromaAgrees}
 use Rattle.plane.proofs.Coordinates.{both-inside}
 use Rattle.plane.proofs.Bounds.{good-within}
+use Rattle.filter.specs.declared.Quality.{Quality}
 use Rattle.filter.specs.declared.Rows.{Rows}
+use Rattle.filter.specs.declared.Making.{Making}
 use Rattle.filter.specs.Rows.{goodRows}
 use Rattle.colour.specs.declared.Conversion.{Conversion}
 use Rattle.colour.specs.Colour.{goodConversion}
 use Rattle.fill.specs.Band.{bandNo}
-use Rattle.picture.specs.Picture.{Frame, goodShapes, chromaFits, lent, served, pictureNo}
-use Rattle.picture.specs.Inner.{Three, Ready}
+use Rattle.picture.specs.declared.Recipe.{Recipe}
+use Rattle.picture.specs.Picture.{Frame, frameOf, goodShapes, chromaFits, lent, served, pictureTests, pictureNo}
+use Rattle.picture.specs.Inner.{recipeOf, Serving, Makeable, Paintable}
 
 -- ---- a band of planes that were judged
 pub band-done :
-    {rows : Rows} {before : Shape} {before-bytes : ℕ} {cur : Shape} {cur-bytes : ℕ} {after : Shape} {after-bytes : ℕ} (from count room : ℕ) →
-    Three rows before before-bytes cur cur-bytes after after-bytes → from + count ≤ cur .height → count * cur .width ≤ room →
-    bandNo rows before before-bytes cur cur-bytes after after-bytes from count room ≡ 0
+    {m : Making} {t : Serving} (from count room : ℕ) → Makeable m t → from + count ≤ m .cur .height → count * m .cur .width ≤ room →
+    bandNo (m .rows) (m .before) (length (t .before)) (m .cur) (length (t .cur)) (m .after) (length (t .after)) from count room ≡ 0
 unfolding lowest
-band-done {rows} {before} {before-bytes} {cur} {cur-bytes} {after} {after-bytes} from count room t inside fits =
-    simp (t .asked, le-leb (from + count) (cur .height) inside, t .shapes, t .alike, t .whole, le-leb (count * cur .width) room fits)
-
--- what a frame that serves has is what serves of the three
-pub served-has : {A B : Type 0} (f : A → B) (s : Source) (previous current following : A) → served s (f previous) (f current) (f following) ≡ f (served s previous current following)
-served-has f source.Previous previous current following = refl
-served-has f source.Current previous current following = refl
-served-has f source.Next previous current following = refl
+band-done {m} {t} from count room j inside fits =
+    simp (j .asked, le-leb (from + count) (m .cur .height) inside, j .good, j .alike, j .whole, le-leb (count * m .cur .width) room fits)
 
 -- what is written at 0
 pub done-written : {A : Type 0} {n : ℕ} {x y : A} (old : A) → n ≡ 0 → x ≡ written n y old → x ≡ y
 done-written {A} {n} {x} {y} old z e = e ∙ ap (λ (k : ℕ). written k y old) z
-
--- of three frames, the three planes that serve
-pub three-served :
-    {rows : Rows} (shape : Frame → Shape) (bytes : Frame → ℕ) (before after : Source) (previous current following : Frame) →
-    Three rows (shape (served before previous current following)) (bytes (served before previous current following)) (shape current) (bytes current)
-    (shape (served after previous current following)) (bytes (served after previous current following)) →
-    Three rows (served before (shape previous) (shape current) (shape following)) (served before (bytes previous) (bytes current) (bytes following)) (shape current)
-    (bytes current) (served after (shape previous) (shape current) (shape following)) (served after (bytes previous) (bytes current) (bytes following))
-three-served shape bytes source.Previous source.Previous previous current following t = t
-three-served shape bytes source.Previous source.Current previous current following t = t
-three-served shape bytes source.Previous source.Next previous current following t = t
-three-served shape bytes source.Current source.Previous previous current following t = t
-three-served shape bytes source.Current source.Current previous current following t = t
-three-served shape bytes source.Current source.Next previous current following t = t
-three-served shape bytes source.Next source.Previous previous current following t = t
-three-served shape bytes source.Next source.Current previous current following t = t
-three-served shape bytes source.Next source.Next previous current following t = t
 
 -- ---- shapes that agree
 pub record Alike (a b : Shape) : Type 0 where
@@ -124,70 +103,102 @@ serves f cur good same chroma cur-chroma whole =
       cr = record { good = goods .1; same = agrees (f .shapes .cr) (cur .shapes .cr) crs; whole = wholes .1 };
     }
 
--- whichever the output asks for
-any-serves : (s : Source) (previous current following : Frame) → Serves previous current → Serves current current → Serves following current → Serves (served s previous current following) current
-any-serves source.Previous previous current following p c f = p
-any-serves source.Current previous current following p c f = c
-any-serves source.Next previous current following p c f = f
+-- whichever the output asks for, picked part by part
+abbrev pub picked : Source → Frame → Frame → Frame → Frame
+picked s previous current next =
+    frameOf (served s (previous .shapes) (current .shapes) (next .shapes)) (served s (previous .luma) (current .luma) (next .luma))
+    (served s (previous .cb) (current .cb) (next .cb)) (served s (previous .cr) (current .cr) (next .cr))
+
+pub picked-served : (s : Source) (previous current next : Frame) → picked s previous current next ≡ served s previous current next
+picked-served source.Previous previous current next = refl
+picked-served source.Current previous current next = refl
+picked-served source.Next previous current next = refl
+
+any-serves : (s : Source) (previous current next : Frame) → Serves previous current → Serves current current → Serves next current → Serves (picked s previous current next) current
+any-serves source.Previous previous current next p c n = p
+any-serves source.Current previous current next p c n = c
+any-serves source.Next previous current next p c n = n
 
 both : {a b : Bool} → a ≡ true → b ≡ true → (a && b) ≡ true
 both {a} {b} p q = ap₂ (λ (x y : Bool). x && y) p q
 
-three :
-    {rows : Rows} {before : Shape} {before-bytes : ℕ} {cur : Shape} {cur-bytes : ℕ} {after : Shape} {after-bytes : ℕ} →
-    goodRows rows ≡ true → Fits before before-bytes cur → Fits cur cur-bytes cur → Fits after after-bytes cur →
-    Three rows before before-bytes cur cur-bytes after after-bytes
-three g b c a = record {
+makeable :
+    {m : Making} {t : Serving} → goodRows (m .rows) ≡ true → Fits (m .before) (length (t .before)) (m .cur) → Fits (m .cur) (length (t .cur)) (m .cur) →
+    Fits (m .after) (length (t .after)) (m .cur) → Makeable m t
+makeable g b c a = record {
   asked = g;
-  shapes = both (both (b .good) (c .good)) (a .good);
+  good = both (both (b .good) (c .good)) (a .good);
   alike = both (b .same) (a .same);
   whole = both (both (b .whole) (c .whole)) (a .whole);
 }
 
-ready :
-    (rows : Rows) (before cur after : Frame) → goodRows rows ≡ true → Serves before cur → Serves cur cur → Serves after cur → chromaFits (cur .shapes) ≡ true →
-    Ready rows before cur after
-ready rows before cur after g b c a chroma =
-    let bounds = good-within (cur .shapes .luma) (c .luma .good) in
-    let chromas = both-inside (chromaAgrees (cur .shapes .luma) (cur .shapes .cb)) (chromaAgrees (cur .shapes .luma) (cur .shapes .cr)) chroma in
-    let cb-halved = chroma-alike (cur .shapes .luma) (cur .shapes .cb) (chromas .0) in
-    let cr-halved = chroma-alike (cur .shapes .luma) (cur .shapes .cr) (chromas .1) in
-    record {
-      luma = three g (b .luma) (c .luma) (a .luma);
-      cb = three g (b .cb) (c .cb) (a .cb);
-      cr = three g (b .cr) (c .cr) (a .cr);
-      width-high = bounds .width-most;
-      height-high = bounds .height-most;
-      cb-width = cb-halved .width;
-      cb-height = cb-halved .height;
-      cr-width = cr-halved .width;
-      cr-height = cr-halved .height;
-    }
-
 -- ---- the whole call
-module _ (conversion : Conversion) (previous current following : Frame) (room : ℕ) (done : pictureNo conversion previous current following room ≡ 0) where
+abbrev pub lumas : Frame → Frame → Frame → Serving
+lumas before cur after = record { before = before .luma; cur = cur .luma; after = after .luma }
+
+abbrev pub cbs : Frame → Frame → Frame → Serving
+cbs before cur after = record { before = before .cb; cur = cur .cb; after = after .cb }
+
+abbrev pub crs : Frame → Frame → Frame → Serving
+crs before cur after = record { before = before .cr; cur = cur .cr; after = after .cr }
+
+module _ (conversion : Conversion) (quality : Quality) (rows : Rows) (asked : goodRows rows ≡ true) (before cur after : Frame) where
+  paintable :
+      Serves before cur → Serves cur cur → Serves after cur → chromaFits (cur .shapes) ≡ true →
+      Paintable (recipeOf conversion quality rows (before .shapes) (cur .shapes) (after .shapes)) (lumas before cur after) (cbs before cur after)
+      (crs before cur after)
+  paintable b c a chroma =
+      let bounds = good-within (cur .shapes .luma) (c .luma .good) in
+      let chromas = both-inside (chromaAgrees (cur .shapes .luma) (cur .shapes .cb)) (chromaAgrees (cur .shapes .luma) (cur .shapes .cr)) chroma in
+      let cb-halved = chroma-alike (cur .shapes .luma) (cur .shapes .cb) (chromas .0) in
+      let cr-halved = chroma-alike (cur .shapes .luma) (cur .shapes .cr) (chromas .1) in
+      record {
+        lumas = makeable asked (b .luma) (c .luma) (a .luma);
+        cbs = makeable asked (b .cb) (c .cb) (a .cb);
+        crs = makeable asked (b .cr) (c .cr) (a .cr);
+        width-high = bounds .width-most;
+        height-high = bounds .height-most;
+        cb-width = cb-halved .width;
+        cb-height = cb-halved .height;
+        cr-width = cr-halved .width;
+        cr-height = cr-halved .height;
+      }
+
+module _ (conversion : Conversion) (previous current next : Frame) (room : ℕ) (done : pictureNo conversion previous current next room ≡ 0) where
+  passed : AllPass (pictureTests conversion previous current next room)
+  unfolding rising
+  passed = all-pass (pictureTests conversion previous current next room) tt done
+
   pub judged :
-      (rows : Rows) → goodRows rows ≡ true → (before after : Source) →
-      Ready rows (served before previous current following) current (served after previous current following)
-  judged rows asked before after =
-      let past-shapes = rest-passes 4 _ _ (lit< tt) done in
-      let past-sizes = rest-passes 5 _ _ (lit< tt) past-shapes in
-      let goods = both-inside _ (goodShapes (following .shapes)) (first-passes 4 _ _ (lit< tt) done) in
+      (quality : Quality) (rows : Rows) → goodRows rows ≡ true → (before after : Source) →
+      let b = picked before previous current next in
+      let a = picked after previous current next in
+      Paintable (recipeOf conversion quality rows (b .shapes) (current .shapes) (a .shapes)) (lumas b current a) (cbs b current a) (crs b current a)
+  judged quality rows asked before after =
+      let goods = both-inside (goodShapes (previous .shapes) && goodShapes (current .shapes)) (goodShapes (next .shapes)) (passed .0) in
       let two-goods = both-inside (goodShapes (previous .shapes)) (goodShapes (current .shapes)) (goods .0) in
-      let fits = both-inside _ (chromaFits (following .shapes)) (first-passes 5 _ _ (lit< tt) past-shapes) in
+      let fits = both-inside _ (chromaFits (next .shapes)) (passed .1 .0) in
       let two-fits = both-inside _ (chromaFits (current .shapes)) (fits .0) in
       let one-fits = both-inside _ (chromaFits (previous .shapes)) (two-fits .0) in
-      let same = both-inside (agree (previous .shapes .luma) (current .shapes .luma)) (agree (following .shapes .luma) (current .shapes .luma)) (one-fits .0) in
-      let lents = both-inside _ (lent following) (first-passes 6 _ _ (lit< tt) past-sizes) in
+      let same = both-inside (agree (previous .shapes .luma) (current .shapes .luma)) (agree (next .shapes .luma) (current .shapes .luma)) (one-fits .0) in
+      let lents = both-inside (lent previous && lent current) (lent next) (passed .1 .1 .0) in
       let two-lents = both-inside (lent previous) (lent current) (lents .0) in
       let self = agrees (current .shapes .luma) (current .shapes .luma) (record { width = refl; height = refl; depth = refl }) in
       let p = serves previous current (two-goods .0) (same .0) (one-fits .1) (two-fits .1) (two-lents .0) in
       let c = serves current current (two-goods .1) self (two-fits .1) (two-fits .1) (two-lents .1) in
-      let f = serves following current (goods .1) (same .1) (fits .1) (two-fits .1) (lents .1) in
-      ready rows _ current _ asked (any-serves before previous current following p c f) c (any-serves after previous current following p c f) (two-fits .1)
+      let n = serves next current (goods .1) (same .1) (fits .1) (two-fits .1) (lents .1) in
+      paintable conversion quality rows asked (picked before previous current next) current (picked after previous current next)
+      (any-serves before previous current next p c n) c (any-serves after previous current next p c n) (two-fits .1)
 
   pub has-room : current .shapes .luma .height * (current .shapes .luma .width * 4) ≤ room
-  has-room = leb-true _ room (first-passes 7 _ _ (lit< tt) (rest-passes 6 _ _ (lit< tt) (rest-passes 5 _ _ (lit< tt) (rest-passes 4 _ _ (lit< tt) done))))
+  has-room = leb-true _ room (passed .1 .1 .1 .0)
 
   pub good-colours : goodConversion conversion ≡ true
-  good-colours = first-passes 8 _ _ (lit< tt) (rest-passes 7 _ _ (lit< tt) (rest-passes 6 _ _ (lit< tt) (rest-passes 5 _ _ (lit< tt) (rest-passes 4 _ _ (lit< tt) done))))
+  good-colours = passed .1 .1 .1 .1 .0
+
+-- whatever those are
+pub paintable-for :
+    {r r′ : Recipe} {l l′ b b′ c c′ : Serving} → r′ ≡ r → l′ ≡ l → b′ ≡ b → c′ ≡ c → Paintable r l b c → Paintable r′ l′ b′ c′
+paintable-for {r} {r′} {l} {l′} {b} {b′} {c} {c′} er el eb ec p =
+    subst (λ (x : Recipe). Paintable x l′ b′ c′) (sym er)
+    (subst (λ (x : Serving). Paintable r x b′ c′) (sym el) (subst (λ (x : Serving). Paintable r l x c′) (sym eb) (subst (Paintable r l b) (sym ec) p)))

@@ -3,7 +3,6 @@ use mathlib.Core.Path.{_≡_, refl, sym, ap, _∙_}
 use mathlib.Core.List.{List}
 use Prim.Native.Nat.{ℕ, _+_, _*_, _/_, _%_, _<_}
 use native.Mathlib.Omega.{arith}
-use lib.IntN.{pos}
 use lib.ListN.{length, getD}
 use lib.Ieee.{Float, nan}
 use Rattle.laws.specs.Rows.{laid, over}
@@ -11,13 +10,13 @@ use Rattle.laws.proofs.Lists.{length-listed, listed-at, same-laid, length-laid,
 use Rattle.plane.specs.Plane.{half}
 use Rattle.filter.specs.declared.Quality.{Quality}
 use Rattle.filter.specs.declared.Rows.{Rows}
-use Rattle.filter.specs.Filter.{Sampler, sampleOf}
+use Rattle.filter.specs.declared.Making.{Making}
 use Rattle.colour.specs.declared.Conversion.{Conversion}
 use Rattle.colour.specs.Colour.{convertedOf}
-use Rattle.fill.specs.Fill.{lineOf}
-use Rattle.fill.specs.Band.{bandOf}
-use Rattle.picture.specs.Picture.{Frame, lumaIn, cbIn, crIn, pixelOf, colourAt, pixelRow}
-use Rattle.picture.specs.Inner.{Ready, cut, paintedRow, paintedAt}
+use Rattle.picture.specs.declared.Recipe.{Recipe}
+use Rattle.picture.specs.Picture.{Frame, pixelOf, colourAt, pixelRow, pixelRows}
+use Rattle.picture.specs.Inner.{recipeOf, Serving, Paintable, sampleAt, lineIn, bandIn, rowIn, rowsIn, cut, paintedRow, paintedAt}
+use Rattle.picture.proofs.Judged.{lumas, cbs, crs}
 
 -- ---- lengths
 pub length-pixels : (n : ℕ) (pixel : ℕ → List ℕ) → ((x : ℕ) → length (pixel x) ≡ 4) → length (laid n pixel) ≡ n * 4
@@ -27,68 +26,66 @@ pub length-painted : (conversion : Conversion) (width : ℕ) (luma cb cr : List 
 unfolding paintedRow
 length-painted conversion width luma cb cr = length-pixels width _ (λ x. refl)
 
-module _ (conversion : Conversion) (quality : Quality) (rows : Rows) (before cur after : Frame) where
-  pub length-row : (width y : ℕ) → length (pixelRow conversion quality rows before cur after width y) ≡ width * 4
-  unfolding pixelRow
-  length-row width y = length-pixels width _ (λ x. refl)
+-- ---- row y of a band
+cut-band :
+    (m : Making) (t : Serving) (from count y : ℕ) (samples old : List Float) → y < count → samples ≡ over (bandIn m t from count) old →
+    cut samples (m .cur .width) y ≡ lineIn m t (m .cur .width) (from + y)
+cut-band m t from count y samples old l e =
+    ap (λ (s : List Float). cut s (m .cur .width) y) e
+    ∙ cut-row (λ (n : ℕ). lineIn m t (m .cur .width) (from + n)) (m .cur .width) (λ n. length-listed (m .cur .width) _) count y _ l
+
+module _ (r : Recipe) (luma cb cr : Serving) where
+  abbrev w : ℕ
+  w = r .luma .cur .width
+
+  pub length-row : (y : ℕ) → length (rowIn r luma cb cr y) ≡ w * 4
+  unfolding rowIn
+  length-row y = length-pixels w _ (λ x. refl)
 
   -- ---- a row, from lines of samples
   painted-line :
-      (width y : ℕ) →
-      paintedRow conversion width (lineOf quality rows (lumaIn before) (lumaIn cur) (lumaIn after) width y)
-      (lineOf quality rows (cbIn before) (cbIn cur) (cbIn after) (half width) (y / 2))
-      (lineOf quality rows (crIn before) (crIn cur) (crIn after) (half width) (y / 2))
-      ≡ pixelRow conversion quality rows before cur after width y
-  unfolding paintedRow pixelRow colourAt
-  painted-line width y = same-laid width _ _ (λ x l. ap pixelOf (pixel x l))
+      (y : ℕ) →
+      paintedRow (r .conversion) w (lineIn (r .luma) luma w y) (lineIn (r .cb) cb (half w) (y / 2)) (lineIn (r .cr) cr (half w) (y / 2)) ≡ rowIn r luma cb cr y
+  unfolding paintedRow rowIn
+  painted-line y = same-laid w _ _ (λ x l. ap pixelOf (pixel x l))
     where
       pixel :
-          (x : ℕ) → x < width →
-          convertedOf conversion (getD (lineOf quality rows (lumaIn before) (lumaIn cur) (lumaIn after) width y) x nan)
-          (getD (lineOf quality rows (cbIn before) (cbIn cur) (cbIn after) (half width) (y / 2)) (x / 2) nan)
-          (getD (lineOf quality rows (crIn before) (crIn cur) (crIn after) (half width) (y / 2)) (x / 2) nan)
-          ≡ convertedOf conversion (sampleOf quality rows (lumaIn before) (lumaIn cur) (lumaIn after) (pos x) (pos y))
-          (sampleOf quality rows (cbIn before) (cbIn cur) (cbIn after) (pos (x / 2)) (pos (y / 2)))
-          (sampleOf quality rows (crIn before) (crIn cur) (crIn after) (pos (x / 2)) (pos (y / 2)))
+          (x : ℕ) → x < w →
+          convertedOf (r .conversion) (getD (lineIn (r .luma) luma w y) x nan) (getD (lineIn (r .cb) cb (half w) (y / 2)) (x / 2) nan)
+          (getD (lineIn (r .cr) cr (half w) (y / 2)) (x / 2) nan)
+          ≡ convertedOf (r .conversion) (sampleAt (r .luma) luma x y) (sampleAt (r .cb) cb (x / 2) (y / 2)) (sampleAt (r .cr) cr (x / 2) (y / 2))
       pixel x l =
-          let inner : x / 2 < half width = omega arith in
+          let inner : x / 2 < half w = omega arith in
           λ i.
-          convertedOf conversion
-          (listed-at width (λ (n : ℕ). sampleOf quality rows (lumaIn before) (lumaIn cur) (lumaIn after) (pos n) (pos y)) x nan l i)
-          (listed-at (half width) (λ (n : ℕ). sampleOf quality rows (cbIn before) (cbIn cur) (cbIn after) (pos n) (pos (y / 2))) (x / 2) nan inner i)
-          (listed-at (half width) (λ (n : ℕ). sampleOf quality rows (crIn before) (crIn cur) (crIn after) (pos n) (pos (y / 2))) (x / 2) nan inner i)
+          convertedOf (r .conversion) (listed-at w (λ (n : ℕ). sampleAt (r .luma) luma n y) x nan l i)
+          (listed-at (half w) (λ (n : ℕ). sampleAt (r .cb) cb n (y / 2)) (x / 2) nan inner i)
+          (listed-at (half w) (λ (n : ℕ). sampleAt (r .cr) cr n (y / 2)) (x / 2) nan inner i)
 
   -- ---- rows, from bands
-  -- row y of a band
-  cut-band :
-      (b c a : Sampler) (width from count y : ℕ) (samples old : List Float) → y < count → samples ≡ over (bandOf quality rows b c a width from count) old →
-      cut samples width y ≡ lineOf quality rows b c a width (from + y)
-  cut-band b c a width from count y samples old l e =
-      ap (λ (s : List Float). cut s width y) e ∙ cut-row (λ (n : ℕ). lineOf quality rows b c a width (from + n)) width (λ n. length-listed width _) count y _ l
-
   pub group-rows :
-      (from count : ℕ) (luma cb cr old-luma old-cb old-cr : List Float) → Ready rows before cur after → from % 2 ≡ 0 →
-      luma ≡ over (bandOf quality rows (lumaIn before) (lumaIn cur) (lumaIn after) (cur .shapes .luma .width) from count) old-luma →
-      cb ≡ over (bandOf quality rows (cbIn before) (cbIn cur) (cbIn after) (cur .shapes .cb .width) (from / 2) (half count)) old-cb →
-      cr ≡ over (bandOf quality rows (crIn before) (crIn cur) (crIn after) (cur .shapes .cr .width) (from / 2) (half count)) old-cr →
-      laid count (paintedAt conversion (cur .shapes .luma .width) luma cb cr)
-      ≡ laid count (λ y. pixelRow conversion quality rows before cur after (cur .shapes .luma .width) (from + y))
-  group-rows from count luma cb cr old-luma old-cb old-cr r even l b c = same-laid count _ _ row
+      (from count : ℕ) (lumas cbs crs old-luma old-cb old-cr : List Float) → Paintable r luma cb cr → from % 2 ≡ 0 →
+      lumas ≡ over (bandIn (r .luma) luma from count) old-luma → cbs ≡ over (bandIn (r .cb) cb (from / 2) (half count)) old-cb →
+      crs ≡ over (bandIn (r .cr) cr (from / 2) (half count)) old-cr →
+      laid count (paintedAt (r .conversion) w lumas cbs crs) ≡ laid count (λ y. rowIn r luma cb cr (from + y))
+  group-rows from count lumas cbs crs old-luma old-cb old-cr p even l b c = same-laid count _ _ row
     where
-      row :
-          (y : ℕ) → y < count →
-          paintedAt conversion (cur .shapes .luma .width) luma cb cr y ≡ pixelRow conversion quality rows before cur after (cur .shapes .luma .width) (from + y)
+      row : (y : ℕ) → y < count → paintedAt (r .conversion) w lumas cbs crs y ≡ rowIn r luma cb cr (from + y)
       row y inside =
-          let w = cur .shapes .luma .width in
           let below : y / 2 < half count = omega arith in
           let chroma-row : from / 2 + y / 2 ≡ (from + y) / 2 = omega (arith, even) in
-          let line = cut-band (lumaIn before) (lumaIn cur) (lumaIn after) w from count y luma old-luma inside l in
+          let line = cut-band (r .luma) luma from count y lumas old-luma inside l in
           let cb-line =
-          ap (λ (n : ℕ). cut cb n (y / 2)) (sym (r .cb-width))
-          ∙ (cut-band (cbIn before) (cbIn cur) (cbIn after) (cur .shapes .cb .width) (from / 2) (half count) (y / 2) cb old-cb below b
-          ∙ (λ i. lineOf quality rows (cbIn before) (cbIn cur) (cbIn after) (r .cb-width i) (chroma-row i))) in
+          ap (λ (n : ℕ). cut cbs n (y / 2)) (sym (p .cb-width)) ∙ cut-band (r .cb) cb (from / 2) (half count) (y / 2) cbs old-cb below b
+          ∙ (λ i. lineIn (r .cb) cb (p .cb-width i) (chroma-row i)) in
           let cr-line =
-          ap (λ (n : ℕ). cut cr n (y / 2)) (sym (r .cr-width))
-          ∙ (cut-band (crIn before) (crIn cur) (crIn after) (cur .shapes .cr .width) (from / 2) (half count) (y / 2) cr old-cr below c
-          ∙ (λ i. lineOf quality rows (crIn before) (crIn cur) (crIn after) (r .cr-width i) (chroma-row i))) in
-          (λ i. paintedRow conversion w (line i) (cb-line i) (cr-line i)) ∙ painted-line w (from + y)
+          ap (λ (n : ℕ). cut crs n (y / 2)) (sym (p .cr-width)) ∙ cut-band (r .cr) cr (from / 2) (half count) (y / 2) crs old-cr below c
+          ∙ (λ i. lineIn (r .cr) cr (p .cr-width i) (chroma-row i)) in
+          (λ i. paintedRow (r .conversion) w (line i) (cb-line i) (cr-line i)) ∙ painted-line (from + y)
+
+-- ---- the rows of a recipe are those of the picture
+pub rows-served :
+    (conversion : Conversion) (quality : Quality) (rows : Rows) (before cur after : Frame) →
+    rowsIn (recipeOf conversion quality rows (before .shapes) (cur .shapes) (after .shapes)) (lumas before cur after) (cbs before cur after) (crs before cur after)
+    ≡ pixelRows conversion quality rows before cur after
+unfolding rowIn pixelRows pixelRow colourAt
+rows-served conversion quality rows before cur after = refl

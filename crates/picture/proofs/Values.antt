@@ -72,7 +72,7 @@ module _ (rows : Rows) (before cur after : Sampler) (b : (x y : ℤ) → Small 8
   sample-small Bwdif = small-choice (eqb (parityOf y) (rows .first)) (c x y) (made-small Bwdif refl)
 
 -- ---- the frame that serves is one of the three
-pub served-bytes : (s : Source) (previous current following : Frame) → Bytes previous → Bytes current → Bytes following → Bytes (served s previous current following)
-served-bytes source.Previous previous current following p c f = p
-served-bytes source.Current previous current following p c f = c
-served-bytes source.Next previous current following p c f = f
+pub served-bytes : (s : Source) (previous current next : Frame) → Bytes previous → Bytes current → Bytes next → Bytes (served s previous current next)
+served-bytes source.Previous previous current next p c f = p
+served-bytes source.Current previous current next p c f = c
+served-bytes source.Next previous current next p c f = f

@@ -5,8 +5,10 @@ use mathlib.Core.List.{List, [], _∷_}
 use lib.Dec.{leb}
 use lib.IntN.{pos}
 use lib.ListN.{length}
-use Rattle.laws.specs.Refusal.{lowest}
-use Rattle.laws.specs.Rows.{laid}
+use denote.Ref.{RefT, now}
+use denote.Triple.Both.{Both}
+use Rattle.laws.specs.Refusal.{lowest, written}
+use Rattle.laws.specs.Rows.{laid, over}
 use Rattle.field.specs.declared.Output.{Output}
 use Rattle.field.specs.declared.Chosen.{Chosen}
 use Rattle.field.specs.declared.Chosen.the-variants as chosen
@@ -22,6 +24,7 @@ use Rattle.filter.specs.Rows.{rowsOf}
 use Rattle.colour.specs.declared.Conversion.{Conversion}
 use Rattle.colour.specs.declared.Rgb.{Rgb}
 use Rattle.colour.specs.Colour.{goodConversion, convertedOf, quantiseOf}
+use Rattle.picture.specs.declared.Asked.{Asked}
 
 -- a frame: the shapes of its three planes, and the bytes that are lent for each
 pub record Frame : Type 0 where
@@ -53,20 +56,20 @@ lent f = wholeFrame (f .shapes) (length (f .luma)) (length (f .cb)) (length (f .
 -- is shorter than its shape needs. 7: the lent output is too short. 8: one of the nine numbers is outside its range or a NaN. All three frames are
 -- judged, also one that the output does not ask for.
 abbrev pub pictureTests : Conversion → Frame → Frame → Frame → ℕ → List (ℕ × Bool)
-pictureTests conversion previous current following room =
-    (4, goodShapes (previous .shapes) && goodShapes (current .shapes) && goodShapes (following .shapes))
+pictureTests conversion previous current next room =
+    (4, goodShapes (previous .shapes) && goodShapes (current .shapes) && goodShapes (next .shapes))
     ∷ (
       5,
-      agree (previous .shapes .luma) (current .shapes .luma) && agree (following .shapes .luma) (current .shapes .luma)
-          && chromaFits (previous .shapes) && chromaFits (current .shapes) && chromaFits (following .shapes),
+      agree (previous .shapes .luma) (current .shapes .luma) && agree (next .shapes .luma) (current .shapes .luma)
+          && chromaFits (previous .shapes) && chromaFits (current .shapes) && chromaFits (next .shapes),
     )
-    ∷ (6, lent previous && lent current && lent following)
+    ∷ (6, lent previous && lent current && lent next)
     ∷ (7, leb (current .shapes .luma .height * (current .shapes .luma .width * 4)) room)
     ∷ (8, goodConversion conversion)
     ∷ []
 
 abbrev pub pictureNo : Conversion → Frame → Frame → Frame → ℕ → ℕ
-pictureNo conversion previous current following room = lowest (pictureTests conversion previous current following room)
+pictureNo conversion previous current next room = lowest (pictureTests conversion previous current next room)
 
 -- ---- the picture
 
@@ -82,9 +85,9 @@ crIn f = valueOf (f .cr) (f .shapes .cr)
 
 -- `Output` says which of the three frames serves as before and which as after; cur is always the current frame.
 abbrev pub served : {A : Type 0} → Source → A → A → A → A
-served source.Previous previous current following = previous
-served source.Current previous current following = current
-served source.Next previous current following = following
+served source.Previous previous current next = previous
+served source.Current previous current next = current
+served source.Next previous current next = next
 
 -- No field means Weave.
 abbrev pub qualityFor : Chosen → Quality → Quality
@@ -112,6 +115,38 @@ pixelRows conversion quality rows before cur after =
     laid (cur .shapes .luma .height) (λ y. pixelRow conversion quality rows before cur after (cur .shapes .luma .width) y)
 
 abbrev pub pictureOf : Quality → Output → Conversion → Frame → Frame → Frame → List ℕ
-pictureOf quality output conversion previous current following =
-    pixelRows conversion (qualityFor (output .field) quality) (rowsOf output) (served (output .before) previous current following) current
-    (served (output .after) previous current following)
+pictureOf quality output conversion previous current next =
+    pixelRows conversion (qualityFor (output .field) quality) (rowsOf output) (served (output .before) previous current next) current
+    (served (output .after) previous current next)
+
+-- ---- a call
+
+pub record Frames : Type 0 where
+  pub previous : Frame
+  pub current : Frame
+  pub next : Frame
+
+-- the frames that are asked for, of these bytes
+abbrev pub framesOf : Asked → List ℕ → List ℕ → List ℕ → List ℕ → List ℕ → List ℕ → List ℕ → List ℕ → List ℕ → Frames
+framesOf asked previous-luma previous-cb previous-cr current-luma current-cb current-cr next-luma next-cb next-cr = record {
+  previous = frameOf (asked .previous) previous-luma previous-cb previous-cr;
+  current = frameOf (asked .current) current-luma current-cb current-cr;
+  next = frameOf (asked .next) next-luma next-cb next-cr;
+}
+
+-- and of those that a call finds
+abbrev pub framesLent :
+    {A B C D E F G H I : Type 0} → Asked → Both (RefT (List ℕ)) A → Both (RefT (List ℕ)) B → Both (RefT (List ℕ)) C → Both (RefT (List ℕ)) D
+    → Both (RefT (List ℕ)) E → Both (RefT (List ℕ)) F → Both (RefT (List ℕ)) G → Both (RefT (List ℕ)) H → Both (RefT (List ℕ)) I → Frames
+framesLent asked previous-luma previous-cb previous-cr current-luma current-cb current-cr next-luma next-cb next-cr =
+    framesOf asked (now (previous-luma .entry)) (now (previous-cb .entry)) (now (previous-cr .entry)) (now (current-luma .entry)) (now (current-cb .entry))
+    (now (current-cr .entry)) (now (next-luma .entry)) (now (next-cb .entry)) (now (next-cr .entry))
+
+-- its number, of frames and of room for the picture
+abbrev pub askedNo : Asked → Frames → ℕ → ℕ
+askedNo asked f room = pictureNo (asked .conversion) (f .previous) (f .current) (f .next) room
+
+-- what the output holds afterwards, by the number
+abbrev pub askedOut : ℕ → Asked → Frames → List ℕ → List ℕ
+askedOut number asked f out =
+    written number (over (pictureOf (asked .quality) (asked .output) (asked .conversion) (f .previous) (f .current) (f .next)) out) out

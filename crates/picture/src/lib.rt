@@ -8,12 +8,21 @@
 ghost use mathlib.Core.Path.{_≡_};
 ghost use Prim.Native.Nat.{_+_, _*_, _/_, _%_, _≤_, _<_};
 ghost use lib.ListN.{length, take, drop};
-ghost use Rattle.laws.specs.Refusal.{written};
 ghost use Rattle.laws.specs.Rows.{laid, over};
-ghost use Rattle.plane.specs.Plane.{half, valueOf};
-ghost use Rattle.fill.specs.Band.{bandOf};
-ghost use Rattle.picture.specs.Picture.{frameOf, goodShapes, chromaFits, wholeFrame, served, qualityFor, pixelOf, pixelRow, pixelRows, pictureNo, pictureOf};
-ghost use Rattle.picture.specs.Inner.{Three, Ready, Rooms, paintedRow, paintedAt};
+ghost use Rattle.plane.specs.Plane.{half};
+ghost use Rattle.picture.specs.Picture.{goodShapes, chromaFits, wholeFrame, served, qualityFor, pixelOf, framesLent, askedNo, askedOut};
+ghost use Rattle.picture.specs.Inner.{makingOf, recipeFor, servingIn, serving, Makeable, Paintable, Rooms, bandIn, rowIn, rowsIn, paintedRow, paintedAt};
+
+// What is asked for: the picture of which `output` says what is shown. `current` is the frame itself, and
+// `previous` and `next` are those at its sides.
+pub struct Asked {
+    pub quality: filter::Quality,
+    pub output: field::Output,
+    pub conversion: colour::Conversion,
+    pub previous: plane::Planes,
+    pub current: plane::Planes,
+    pub next: plane::Planes,
+}
 
 // ---- what is judged once
 
@@ -109,263 +118,90 @@ fn paint_rows(
 
 // ---- eight rows at a time, since each band that is asked for costs the making of its arrays
 
+// What a picture is made by, plane by plane, and the colours of its samples.
+struct Recipe {
+    luma: filter::Making,
+    cb: filter::Making,
+    cr: filter::Making,
+    conversion: colour::Conversion,
+}
+
 // A band of planes that were judged before, so that its number is 0.
 fn samples(
     out: &mut [f32],
-    quality: filter::Quality,
-    rows: filter::Rows,
+    making: filter::Making,
     before: &[u8],
-    before_shape: plane::Shape,
     cur: &[u8],
-    cur_shape: plane::Shape,
     after: &[u8],
-    after_shape: plane::Shape,
     from: u16,
     count: u16,
 )
-    requires { ⌜ Three rows «before_shape» (length (now before)) «cur_shape» (length (now cur)) «after_shape» (length (now after)) ⌝ }
-    requires { ⌜ (from + count ≤ «cur_shape» .height) × (count * «cur_shape» .width ≤ length (now out)) ⌝ }
-    ensures { λ _. ⌜ now (out .exit) ≡ over (bandOf quality rows (valueOf (now (before .entry)) «before_shape») (valueOf (now (cur .entry)) «cur_shape») (valueOf (now (after .entry)) «after_shape») («cur_shape» .width) from count) (now (out .entry)) ⌝ }
+    requires { ⌜ Makeable making (servingIn before cur after) ⌝ }
+    requires { ⌜ (from + count ≤ making .cur .height) × (count * making .cur .width ≤ length (now out)) ⌝ }
+    ensures { λ _. ⌜ now (out .exit) ≡ over (bandIn making (serving before cur after) from count) (now (out .entry)) ⌝ }
 {
+    let quality = making.quality;
+    let rows = making.rows;
     fill::band(
         out,
         quality,
         rows,
         before,
-        before_shape,
+        making.before,
         cur,
-        cur_shape,
+        making.cur,
         after,
-        after_shape,
+        making.after,
         from,
         count,
     );
 }
 
-// Which plane serves as before, and which as after. A reference to one of several slices cannot be handed
-// on here, so each case has its call.
-fn samples_with_after(
-    out: &mut [f32],
-    quality: filter::Quality,
-    rows: filter::Rows,
-    after: field::Source,
-    before: &[u8],
-    before_shape: plane::Shape,
-    previous: &[u8],
-    previous_shape: plane::Shape,
-    current: &[u8],
-    current_shape: plane::Shape,
-    following: &[u8],
-    following_shape: plane::Shape,
-    from: u16,
-    count: u16,
-)
-    requires { ⌜ Three rows «before_shape» (length (now before)) «current_shape» (length (now current)) (served after «previous_shape» «current_shape» «following_shape») (served after (length (now previous)) (length (now current)) (length (now following))) ⌝ }
-    requires { ⌜ (from + count ≤ «current_shape» .height) × (count * «current_shape» .width ≤ length (now out)) ⌝ }
-    ensures { λ _. ⌜ now (out .exit) ≡ over (bandOf quality rows (valueOf (now (before .entry)) «before_shape») (valueOf (now (current .entry)) «current_shape») (served after (valueOf (now (previous .entry)) «previous_shape») (valueOf (now (current .entry)) «current_shape») (valueOf (now (following .entry)) «following_shape»)) («current_shape» .width) from count) (now (out .entry)) ⌝ }
-{
-    match after {
-        field::Source::Previous => {
-            samples(
-                out,
-                quality,
-                rows,
-                before,
-                before_shape,
-                current,
-                current_shape,
-                previous,
-                previous_shape,
-                from,
-                count,
-            );
-        }
-        field::Source::Current => {
-            samples(
-                out,
-                quality,
-                rows,
-                before,
-                before_shape,
-                current,
-                current_shape,
-                current,
-                current_shape,
-                from,
-                count,
-            );
-        }
-        field::Source::Next => {
-            samples(
-                out,
-                quality,
-                rows,
-                before,
-                before_shape,
-                current,
-                current_shape,
-                following,
-                following_shape,
-                from,
-                count,
-            );
-        }
-    }
-}
-
-fn samples_with(
-    out: &mut [f32],
-    quality: filter::Quality,
-    rows: filter::Rows,
-    before: field::Source,
-    after: field::Source,
-    previous: &[u8],
-    previous_shape: plane::Shape,
-    current: &[u8],
-    current_shape: plane::Shape,
-    following: &[u8],
-    following_shape: plane::Shape,
-    from: u16,
-    count: u16,
-)
-    requires { ⌜ Three rows (served before «previous_shape» «current_shape» «following_shape») (served before (length (now previous)) (length (now current)) (length (now following))) «current_shape» (length (now current)) (served after «previous_shape» «current_shape» «following_shape») (served after (length (now previous)) (length (now current)) (length (now following))) ⌝ }
-    requires { ⌜ (from + count ≤ «current_shape» .height) × (count * «current_shape» .width ≤ length (now out)) ⌝ }
-    ensures { λ _. ⌜ now (out .exit) ≡ over (bandOf quality rows (served before (valueOf (now (previous .entry)) «previous_shape») (valueOf (now (current .entry)) «current_shape») (valueOf (now (following .entry)) «following_shape»)) (valueOf (now (current .entry)) «current_shape») (served after (valueOf (now (previous .entry)) «previous_shape») (valueOf (now (current .entry)) «current_shape») (valueOf (now (following .entry)) «following_shape»)) («current_shape» .width) from count) (now (out .entry)) ⌝ }
-{
-    match before {
-        field::Source::Previous => {
-            samples_with_after(
-                out,
-                quality,
-                rows,
-                after,
-                previous,
-                previous_shape,
-                previous,
-                previous_shape,
-                current,
-                current_shape,
-                following,
-                following_shape,
-                from,
-                count,
-            );
-        }
-        field::Source::Current => {
-            samples_with_after(
-                out,
-                quality,
-                rows,
-                after,
-                current,
-                current_shape,
-                previous,
-                previous_shape,
-                current,
-                current_shape,
-                following,
-                following_shape,
-                from,
-                count,
-            );
-        }
-        field::Source::Next => {
-            samples_with_after(
-                out,
-                quality,
-                rows,
-                after,
-                following,
-                following_shape,
-                previous,
-                previous_shape,
-                current,
-                current_shape,
-                following,
-                following_shape,
-                from,
-                count,
-            );
-        }
-    }
-}
-
 // `count` rows from an even row on.
 fn paint_group(
     out: &mut [u8],
-    quality: filter::Quality,
-    rows: filter::Rows,
-    conversion: colour::Conversion,
-    before: field::Source,
-    after: field::Source,
-    previous: plane::Planes,
-    previous_luma: &[u8],
-    previous_cb: &[u8],
-    previous_cr: &[u8],
-    current: plane::Planes,
-    current_luma: &[u8],
-    current_cb: &[u8],
-    current_cr: &[u8],
-    following: plane::Planes,
-    following_luma: &[u8],
-    following_cb: &[u8],
-    following_cr: &[u8],
+    recipe: Recipe,
+    before_luma: &[u8],
+    cur_luma: &[u8],
+    after_luma: &[u8],
+    before_cb: &[u8],
+    cur_cb: &[u8],
+    after_cb: &[u8],
+    before_cr: &[u8],
+    cur_cr: &[u8],
+    after_cr: &[u8],
     from: u16,
     count: u16,
     luma: &mut [f32],
     cb: &mut [f32],
     cr: &mut [f32],
 )
-    requires { ⌜ Ready rows (served before (frameOf previous (now («previous_luma»)) (now («previous_cb»)) (now («previous_cr»))) (frameOf current (now («current_luma»)) (now («current_cb»)) (now («current_cr»))) (frameOf following (now («following_luma»)) (now («following_cb»)) (now («following_cr»)))) (frameOf current (now («current_luma»)) (now («current_cb»)) (now («current_cr»))) (served after (frameOf previous (now («previous_luma»)) (now («previous_cb»)) (now («previous_cr»))) (frameOf current (now («current_luma»)) (now («current_cb»)) (now («current_cr»))) (frameOf following (now («following_luma»)) (now («following_cb»)) (now («following_cr»)))) ⌝ }
-    requires { ⌜ (from % 2 ≡ 0) × (from + count ≤ current .luma .height) × (count ≤ 8) × (length (now out) ≡ count * (current .luma .width * 4)) ⌝ }
+    requires { ⌜ Paintable recipe (servingIn «before_luma» «cur_luma» «after_luma») (servingIn «before_cb» «cur_cb» «after_cb») (servingIn «before_cr» «cur_cr» «after_cr») ⌝ }
+    requires { ⌜ (from % 2 ≡ 0) × (from + count ≤ recipe .luma .cur .height) × (count ≤ 8) × (length (now out) ≡ count * (recipe .luma .cur .width * 4)) ⌝ }
     requires { ⌜ Rooms (now luma) (now cb) (now cr) ⌝ }
-    ensures { λ _. ⌜ now (out .exit) ≡ laid count (λ y. pixelRow conversion quality rows (served before (frameOf previous (now («previous_luma» .entry)) (now («previous_cb» .entry)) (now («previous_cr» .entry))) (frameOf current (now («current_luma» .entry)) (now («current_cb» .entry)) (now («current_cr» .entry))) (frameOf following (now («following_luma» .entry)) (now («following_cb» .entry)) (now («following_cr» .entry)))) (frameOf current (now («current_luma» .entry)) (now («current_cb» .entry)) (now («current_cr» .entry))) (served after (frameOf previous (now («previous_luma» .entry)) (now («previous_cb» .entry)) (now («previous_cr» .entry))) (frameOf current (now («current_luma» .entry)) (now («current_cb» .entry)) (now («current_cr» .entry))) (frameOf following (now («following_luma» .entry)) (now («following_cb» .entry)) (now («following_cr» .entry)))) (current .luma .width) (from + y)) ⌝ }
+    ensures { λ _. ⌜ now (out .exit) ≡ laid count (λ y. rowIn recipe (serving «before_luma» «cur_luma» «after_luma») (serving «before_cb» «cur_cb» «after_cb») (serving «before_cr» «cur_cr» «after_cr») (from + y)) ⌝ }
 {
-    let shape = current.luma;
+    let making = recipe.luma;
+    let shape = making.cur;
+    let conversion = recipe.conversion;
     let chroma_from = from / 2;
     let chroma_count = (count + 1) / 2;
-    samples_with(
-        luma,
-        quality,
-        rows,
-        before,
-        after,
-        previous_luma,
-        previous.luma,
-        current_luma,
-        current.luma,
-        following_luma,
-        following.luma,
-        from,
-        count,
-    );
-    samples_with(
+    samples(luma, making, before_luma, cur_luma, after_luma, from, count);
+    samples(
         cb,
-        quality,
-        rows,
-        before,
-        after,
-        previous_cb,
-        previous.cb,
-        current_cb,
-        current.cb,
-        following_cb,
-        following.cb,
+        recipe.cb,
+        before_cb,
+        cur_cb,
+        after_cb,
         chroma_from,
         chroma_count,
     );
-    samples_with(
+    samples(
         cr,
-        quality,
-        rows,
-        before,
-        after,
-        previous_cr,
-        previous.cr,
-        current_cr,
-        current.cr,
-        following_cr,
-        following.cr,
+        recipe.cr,
+        before_cr,
+        cur_cr,
+        after_cr,
         chroma_from,
         chroma_count,
     );
@@ -389,33 +225,27 @@ fn group(left: u16) -> u16
 
 fn paint_groups(
     out: &mut [u8],
-    quality: filter::Quality,
-    rows: filter::Rows,
-    conversion: colour::Conversion,
-    before: field::Source,
-    after: field::Source,
-    previous: plane::Planes,
-    previous_luma: &[u8],
-    previous_cb: &[u8],
-    previous_cr: &[u8],
-    current: plane::Planes,
-    current_luma: &[u8],
-    current_cb: &[u8],
-    current_cr: &[u8],
-    following: plane::Planes,
-    following_luma: &[u8],
-    following_cb: &[u8],
-    following_cr: &[u8],
+    recipe: Recipe,
+    before_luma: &[u8],
+    cur_luma: &[u8],
+    after_luma: &[u8],
+    before_cb: &[u8],
+    cur_cb: &[u8],
+    after_cb: &[u8],
+    before_cr: &[u8],
+    cur_cr: &[u8],
+    after_cr: &[u8],
     luma: &mut [f32],
     cb: &mut [f32],
     cr: &mut [f32],
 )
-    requires { ⌜ Ready rows (served before (frameOf previous (now («previous_luma»)) (now («previous_cb»)) (now («previous_cr»))) (frameOf current (now («current_luma»)) (now («current_cb»)) (now («current_cr»))) (frameOf following (now («following_luma»)) (now («following_cb»)) (now («following_cr»)))) (frameOf current (now («current_luma»)) (now («current_cb»)) (now («current_cr»))) (served after (frameOf previous (now («previous_luma»)) (now («previous_cb»)) (now («previous_cr»))) (frameOf current (now («current_luma»)) (now («current_cb»)) (now («current_cr»))) (frameOf following (now («following_luma»)) (now («following_cb»)) (now («following_cr»)))) ⌝ }
-    requires { ⌜ current .luma .height * (current .luma .width * 4) ≤ length (now out) ⌝ }
+    requires { ⌜ Paintable recipe (servingIn «before_luma» «cur_luma» «after_luma») (servingIn «before_cb» «cur_cb» «after_cb») (servingIn «before_cr» «cur_cr» «after_cr») ⌝ }
+    requires { ⌜ recipe .luma .cur .height * (recipe .luma .cur .width * 4) ≤ length (now out) ⌝ }
     requires { ⌜ Rooms (now luma) (now cb) (now cr) ⌝ }
-    ensures { λ _. ⌜ now (out .exit) ≡ over (pixelRows conversion quality rows (served before (frameOf previous (now («previous_luma» .entry)) (now («previous_cb» .entry)) (now («previous_cr» .entry))) (frameOf current (now («current_luma» .entry)) (now («current_cb» .entry)) (now («current_cr» .entry))) (frameOf following (now («following_luma» .entry)) (now («following_cb» .entry)) (now («following_cr» .entry)))) (frameOf current (now («current_luma» .entry)) (now («current_cb» .entry)) (now («current_cr» .entry))) (served after (frameOf previous (now («previous_luma» .entry)) (now («previous_cb» .entry)) (now («previous_cr» .entry))) (frameOf current (now («current_luma» .entry)) (now («current_cb» .entry)) (now («current_cr» .entry))) (frameOf following (now («following_luma» .entry)) (now («following_cb» .entry)) (now («following_cr» .entry))))) (now (out .entry)) ⌝ }
+    ensures { λ _. ⌜ now (out .exit) ≡ over (rowsIn recipe (serving «before_luma» «cur_luma» «after_luma») (serving «before_cb» «cur_cb» «after_cb») (serving «before_cr» «cur_cr» «after_cr»)) (now (out .entry)) ⌝ }
 {
-    let shape = current.luma;
+    let making = recipe.luma;
+    let shape = making.cur;
     let mut from: u16 = 0;
     while from < shape.height {
         let count = group(shape.height - from);
@@ -423,23 +253,16 @@ fn paint_groups(
         let to = at + bytes_of(count, shape.width);
         paint_group(
             &mut out[at..to],
-            quality,
-            rows,
-            conversion,
-            before,
-            after,
-            previous,
-            previous_luma,
-            previous_cb,
-            previous_cr,
-            current,
-            current_luma,
-            current_cb,
-            current_cr,
-            following,
-            following_luma,
-            following_cb,
-            following_cr,
+            recipe,
+            before_luma,
+            cur_luma,
+            after_luma,
+            before_cb,
+            cur_cb,
+            after_cb,
+            before_cr,
+            cur_cr,
+            after_cr,
             from,
             count,
             luma,
@@ -453,55 +276,43 @@ fn paint_groups(
 // The places for samples are made once for all rows.
 fn paint(
     out: &mut [u8],
-    quality: filter::Quality,
-    rows: filter::Rows,
-    conversion: colour::Conversion,
-    before: field::Source,
-    after: field::Source,
-    previous: plane::Planes,
-    previous_luma: &[u8],
-    previous_cb: &[u8],
-    previous_cr: &[u8],
-    current: plane::Planes,
-    current_luma: &[u8],
-    current_cb: &[u8],
-    current_cr: &[u8],
-    following: plane::Planes,
-    following_luma: &[u8],
-    following_cb: &[u8],
-    following_cr: &[u8],
+    recipe: Recipe,
+    before_luma: &[u8],
+    cur_luma: &[u8],
+    after_luma: &[u8],
+    before_cb: &[u8],
+    cur_cb: &[u8],
+    after_cb: &[u8],
+    before_cr: &[u8],
+    cur_cr: &[u8],
+    after_cr: &[u8],
 )
-    requires { ⌜ Ready rows (served before (frameOf previous (now («previous_luma»)) (now («previous_cb»)) (now («previous_cr»))) (frameOf current (now («current_luma»)) (now («current_cb»)) (now («current_cr»))) (frameOf following (now («following_luma»)) (now («following_cb»)) (now («following_cr»)))) (frameOf current (now («current_luma»)) (now («current_cb»)) (now («current_cr»))) (served after (frameOf previous (now («previous_luma»)) (now («previous_cb»)) (now («previous_cr»))) (frameOf current (now («current_luma»)) (now («current_cb»)) (now («current_cr»))) (frameOf following (now («following_luma»)) (now («following_cb»)) (now («following_cr»)))) ⌝ }
-    requires { ⌜ current .luma .height * (current .luma .width * 4) ≤ length (now out) ⌝ }
-    ensures { λ _. ⌜ now (out .exit) ≡ over (pixelRows conversion quality rows (served before (frameOf previous (now («previous_luma» .entry)) (now («previous_cb» .entry)) (now («previous_cr» .entry))) (frameOf current (now («current_luma» .entry)) (now («current_cb» .entry)) (now («current_cr» .entry))) (frameOf following (now («following_luma» .entry)) (now («following_cb» .entry)) (now («following_cr» .entry)))) (frameOf current (now («current_luma» .entry)) (now («current_cb» .entry)) (now («current_cr» .entry))) (served after (frameOf previous (now («previous_luma» .entry)) (now («previous_cb» .entry)) (now («previous_cr» .entry))) (frameOf current (now («current_luma» .entry)) (now («current_cb» .entry)) (now («current_cr» .entry))) (frameOf following (now («following_luma» .entry)) (now («following_cb» .entry)) (now («following_cr» .entry))))) (now (out .entry)) ⌝ }
+    requires { ⌜ Paintable recipe (servingIn «before_luma» «cur_luma» «after_luma») (servingIn «before_cb» «cur_cb» «after_cb») (servingIn «before_cr» «cur_cr» «after_cr») ⌝ }
+    requires { ⌜ recipe .luma .cur .height * (recipe .luma .cur .width * 4) ≤ length (now out) ⌝ }
+    ensures { λ _. ⌜ now (out .exit) ≡ over (rowsIn recipe (serving «before_luma» «cur_luma» «after_luma») (serving «before_cb» «cur_cb» «after_cb») (serving «before_cr» «cur_cr» «after_cr»)) (now (out .entry)) ⌝ }
 {
     let mut luma = [0.0f32; 65536];
     let mut cb = [0.0f32; 16384];
     let mut cr = [0.0f32; 16384];
     paint_groups(
         out,
-        quality,
-        rows,
-        conversion,
-        before,
-        after,
-        previous,
-        previous_luma,
-        previous_cb,
-        previous_cr,
-        current,
-        current_luma,
-        current_cb,
-        current_cr,
-        following,
-        following_luma,
-        following_cb,
-        following_cr,
+        recipe,
+        before_luma,
+        cur_luma,
+        after_luma,
+        before_cb,
+        cur_cb,
+        after_cb,
+        before_cr,
+        cur_cr,
+        after_cr,
         &mut luma[0..65536],
         &mut cb[0..16384],
         &mut cr[0..16384],
     );
 }
+
+// ---- which frames serve
 
 // A frame that is shown whole has no row to be made.
 fn quality_for(shown: field::Chosen, quality: filter::Quality) -> filter::Quality
@@ -513,36 +324,103 @@ fn quality_for(shown: field::Chosen, quality: filter::Quality) -> filter::Qualit
     }
 }
 
-// The picture of which `output` says what is shown: `current` is the frame itself, and `previous` and
-// `following` those at its sides. In a biplanar frame one slice is lent for cb and for cr.
-pub fn picture_of(
-    out: &mut [u8],
-    quality: filter::Quality,
-    output: field::Output,
-    conversion: colour::Conversion,
+fn shapes_of(
+    source: field::Source,
     previous: plane::Planes,
-    previous_luma: &[u8],
-    previous_cb: &[u8],
-    previous_cr: &[u8],
     current: plane::Planes,
-    current_luma: &[u8],
-    current_cb: &[u8],
-    current_cr: &[u8],
-    following: plane::Planes,
-    following_luma: &[u8],
-    following_cb: &[u8],
-    following_cr: &[u8],
-) -> u8
-    ensures { λ r. ⌜ r ≡ pictureNo conversion (frameOf previous (now («previous_luma» .entry)) (now («previous_cb» .entry)) (now («previous_cr» .entry))) (frameOf current (now («current_luma» .entry)) (now («current_cb» .entry)) (now («current_cr» .entry))) (frameOf following (now («following_luma» .entry)) (now («following_cb» .entry)) (now («following_cr» .entry))) (length (now (out .entry))) ⌝ }
-    ensures { λ r. ⌜ now (out .exit) ≡ written r (over (pictureOf quality output conversion (frameOf previous (now («previous_luma» .entry)) (now («previous_cb» .entry)) (now («previous_cr» .entry))) (frameOf current (now («current_luma» .entry)) (now («current_cb» .entry)) (now («current_cr» .entry))) (frameOf following (now («following_luma» .entry)) (now («following_cb» .entry)) (now («following_cr» .entry)))) (now (out .entry))) (now (out .entry)) ⌝ }
+    next: plane::Planes,
+) -> plane::Planes
+    ensures { λ r. ⌜ r ≡ served source previous current next ⌝ }
 {
+    match source {
+        field::Source::Previous => previous,
+        field::Source::Current => current,
+        field::Source::Next => next,
+    }
+}
+
+fn bytes_from<'a>(
+    source: field::Source,
+    previous: &'a [u8],
+    current: &'a [u8],
+    next: &'a [u8],
+) -> &'a [u8]
+    ensures { λ r. ⌜ now r ≡ served source (now (previous .entry)) (now (current .entry)) (now (next .entry)) ⌝ }
+{
+    match source {
+        field::Source::Previous => previous,
+        field::Source::Current => current,
+        field::Source::Next => next,
+    }
+}
+
+fn making_of(
+    quality: filter::Quality,
+    rows: filter::Rows,
+    before: plane::Shape,
+    cur: plane::Shape,
+    after: plane::Shape,
+) -> filter::Making
+    ensures { λ r. ⌜ r ≡ makingOf quality rows before cur after ⌝ }
+{
+    filter::Making {
+        quality: quality,
+        rows: rows,
+        before: before,
+        cur: cur,
+        after: after,
+    }
+}
+
+fn recipe_for(asked: Asked) -> Recipe
+    ensures { λ r. ⌜ r ≡ recipeFor asked ⌝ }
+{
+    let output = asked.output;
+    let shown = output.field;
+    let earlier = output.before;
+    let later = output.after;
+    let given = asked.quality;
+    let quality = quality_for(shown, given);
+    let rows = filter::Rows::of(output);
+    let before = shapes_of(earlier, asked.previous, asked.current, asked.next);
+    let cur = asked.current;
+    let after = shapes_of(later, asked.previous, asked.current, asked.next);
+    let conversion = asked.conversion;
+    Recipe {
+        luma: making_of(quality, rows, before.luma, cur.luma, after.luma),
+        cb: making_of(quality, rows, before.cb, cur.cb, after.cb),
+        cr: making_of(quality, rows, before.cr, cur.cr, after.cr),
+        conversion: conversion,
+    }
+}
+
+// In a biplanar frame one slice is lent for cb and for cr.
+pub fn picture_of<'a>(
+    out: &mut [u8],
+    asked: Asked,
+    previous_luma: &'a [u8],
+    previous_cb: &'a [u8],
+    previous_cr: &'a [u8],
+    current_luma: &'a [u8],
+    current_cb: &'a [u8],
+    current_cr: &'a [u8],
+    next_luma: &'a [u8],
+    next_cb: &'a [u8],
+    next_cr: &'a [u8],
+) -> u8
+    ensures { λ r. ⌜ r ≡ askedNo asked (framesLent asked «previous_luma» «previous_cb» «previous_cr» «current_luma» «current_cb» «current_cr» «next_luma» «next_cb» «next_cr») (length (now (out .entry))) ⌝ }
+    ensures { λ r. ⌜ now (out .exit) ≡ askedOut r asked (framesLent asked «previous_luma» «previous_cb» «previous_cr» «current_luma» «current_cb» «current_cr» «next_luma» «next_cb» «next_cr») (now (out .entry)) ⌝ }
+{
+    let previous = asked.previous;
+    let current = asked.current;
+    let next = asked.next;
     let shape = current.luma;
-    let shapes = good_shapes(previous) & good_shapes(current) & good_shapes(following);
+    let shapes = good_shapes(previous) & good_shapes(current) & good_shapes(next);
     let same = plane::planes_agree(previous.luma, current.luma)
-        & plane::planes_agree(following.luma, current.luma)
+        & plane::planes_agree(next.luma, current.luma)
         & chroma_fits(previous)
         & chroma_fits(current)
-        & chroma_fits(following);
+        & chroma_fits(next);
     let whole = whole_frame(
         previous,
         previous_luma.len(),
@@ -555,38 +433,36 @@ pub fn picture_of(
             current_cb.len(),
             current_cr.len(),
         )
-        & whole_frame(
-            following,
-            following_luma.len(),
-            following_cb.len(),
-            following_cr.len(),
-        );
+        & whole_frame(next, next_luma.len(), next_cb.len(), next_cr.len());
     let room = bytes_of(shape.height, shape.width) <= out.len();
-    let colours = colour::good_conversion(conversion);
-    let no = refusal::lowest_of(true, shapes, same, whole, room, colours);
+    let colours = colour::good_conversion(asked.conversion);
+    let outputs = refusal::test(
+        refusal::SHORT_OUTPUT,
+        room,
+        refusal::test(refusal::COLOUR, colours, refusal::DONE),
+    );
+    let inputs = refusal::test(
+        refusal::DIFFER,
+        same,
+        refusal::test(refusal::SHORT_INPUT, whole, outputs),
+    );
+    let no = refusal::test(refusal::SHAPE, shapes, inputs);
     if no == 0 {
-        let shown = output.field;
+        let output = asked.output;
         let before = output.before;
         let after = output.after;
         paint(
             out,
-            quality_for(shown, quality),
-            filter::Rows::of(output),
-            conversion,
-            before,
-            after,
-            previous,
-            previous_luma,
-            previous_cb,
-            previous_cr,
-            current,
+            recipe_for(asked),
+            bytes_from(before, previous_luma, current_luma, next_luma),
             current_luma,
+            bytes_from(after, previous_luma, current_luma, next_luma),
+            bytes_from(before, previous_cb, current_cb, next_cb),
             current_cb,
+            bytes_from(after, previous_cb, current_cb, next_cb),
+            bytes_from(before, previous_cr, current_cr, next_cr),
             current_cr,
-            following,
-            following_luma,
-            following_cb,
-            following_cr,
+            bytes_from(after, previous_cr, current_cr, next_cr),
         );
     }
     no

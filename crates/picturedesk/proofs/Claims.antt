@@ -5,4 +5,4 @@ use Rattle.picturedesk.specs.Claims.{PictureSays}
 
 pub picture-says : PictureSays
 unfolding rising
-picture-says quality output previous current following conversion p c f room = lowest-says _ tt
+picture-says quality output conversion previous current next f room = lowest-says _ tt

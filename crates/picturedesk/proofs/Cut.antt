@@ -28,29 +28,29 @@ frame-same : (f : Frame) → goodShapes (f .shapes) ≡ true → cutFrame f ≡ 
 frame-same f g = ap (λ (p : Planes). frameOf p (f .luma) (f .cb) (f .cr)) (planes-same (f .shapes) g)
 
 -- ---- three frames: 3 of the codes, then 4 of every shape
-module _ (named : Bool) (conversion : Conversion) (p c f : Frame) (room : ℕ) where
+module _ (named : Bool) (conversion : Conversion) (p c n : Frame) (room : ℕ) where
   abbrev number : Frame → Frame → Frame → ℕ
-  number previous current following = lowest ((3, named) ∷ pictureTests conversion previous current following room)
+  number previous current next = lowest ((3, named) ∷ pictureTests conversion previous current next room)
 
   abbrev allGood : Bool
-  allGood = goodShapes (p .shapes) && goodShapes (c .shapes) && goodShapes (f .shapes)
+  allGood = goodShapes (p .shapes) && goodShapes (c .shapes) && goodShapes (n .shapes)
 
   abbrev AllSame : Type 0
-  AllSame = (cutFrame p ≡ p) × (cutFrame c ≡ c) × (cutFrame f ≡ f)
+  AllSame = (cutFrame p ≡ p) × (cutFrame c ≡ c) × (cutFrame n ≡ n)
 
   all-same : allGood ≡ true → AllSame
   all-same g =
-      let last = both-inside (goodShapes (p .shapes) && goodShapes (c .shapes)) (goodShapes (f .shapes)) g in
+      let last = both-inside (goodShapes (p .shapes) && goodShapes (c .shapes)) (goodShapes (n .shapes)) g in
       let first = both-inside (goodShapes (p .shapes)) (goodShapes (c .shapes)) (last .0) in
-      (frame-same p (first .0), frame-same c (first .1), frame-same f (last .1))
+      (frame-same p (first .0), frame-same c (first .1), frame-same n (last .1))
 
-  pub picture-number : number (cutFrame p) (cutFrame c) (cutFrame f) ≡ number p c f
+  pub picture-number : number (cutFrame p) (cutFrame c) (cutFrame n) ≡ number p c n
   picture-number =
       lowest-behind 3 named _ _
-      (lowest-alike 4 _ _ (λ i. planes-good (p .shapes) i && planes-good (c .shapes) i && planes-good (f .shapes) i)
+      (lowest-alike 4 _ _ (λ i. planes-good (p .shapes) i && planes-good (c .shapes) i && planes-good (n .shapes) i)
       (λ g.
       let same = all-same g in
       λ i. lowest (pictureTests conversion (same .0 i) (same .1 i) (same .2 i) room)))
 
-  pub picture-same : number p c f ≡ 0 → AllSame
+  pub picture-same : number p c n ≡ 0 → AllSame
   picture-same z = all-same (first-passes 4 _ _ (lit< tt) (rest-passes 3 _ _ (lit< tt) z))

@@ -2,13 +2,13 @@
 use Prim.Native.Nat.{ℕ}
 use Rattle.laws.specs.Refusal.{Says}
 use Rattle.colour.specs.declared.Conversion.{Conversion}
-use Rattle.picture.specs.Picture.{Frame}
+use Rattle.picture.specs.Picture.{Frames}
 use Rattle.picturedesk.specs.declared.FrameNumbers.{FrameNumbers}
 use Rattle.picturedesk.specs.declared.OutputNumbers.{OutputNumbers}
-use Rattle.picturedesk.specs.Pictures.{pictureNamedTests}
+use Rattle.picturedesk.specs.Pictures.{namedTests}
 
 -- 0 exactly when no number applies, and otherwise the lowest that does
 abbrev pub PictureSays : Type 0
 PictureSays =
-    (quality : ℕ) (output : OutputNumbers) (previous current following : FrameNumbers) (conversion : Conversion) (p c f : Frame) (room : ℕ)
-    → Says (pictureNamedTests quality output previous current following conversion p c f room)
+    (quality : ℕ) (output : OutputNumbers) (conversion : Conversion) (previous current next : FrameNumbers) (f : Frames) (room : ℕ)
+    → Says (namedTests quality output conversion previous current next f room)

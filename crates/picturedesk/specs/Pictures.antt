@@ -3,6 +3,9 @@ use Prim.Native.Nat.{ℕ}
 use mathlib.Core.Bool.{Bool, false, cond, _&&_}
 use mathlib.Core.List.{List, _∷_}
 use lib.Dec.{leb, eqb}
+use lib.ListN.{length}
+use denote.Ref.{RefT, now}
+use denote.Triple.Both.{Both}
 use Rattle.laws.specs.Refusal.{lowest}
 use Rattle.field.specs.declared.Chosen.{Chosen}
 use Rattle.field.specs.declared.Chosen.the-variants as chosen
@@ -12,7 +15,9 @@ use Rattle.field.specs.declared.Output.{Output}
 use Rattle.field.specs.Field.{parityNamed}
 use Rattle.plane.specs.declared.Planes.{Planes}
 use Rattle.colour.specs.declared.Conversion.{Conversion}
-use Rattle.picture.specs.Picture.{Frame, pictureTests}
+use Rattle.filter.specs.Rows.{qualityNamed}
+use Rattle.picture.specs.declared.Asked.{Asked}
+use Rattle.picture.specs.Picture.{Frames, pictureTests, framesLent, askedOut}
 use Rattle.numbers.specs.Numbers.{shapeNamed}
 use Rattle.picturedesk.specs.declared.FrameNumbers.{FrameNumbers}
 use Rattle.picturedesk.specs.declared.OutputNumbers.{OutputNumbers}
@@ -47,14 +52,40 @@ abbrev pub outputGood : OutputNumbers → Bool
 outputGood n = leb (n .field) 2 && leb (n .weave) 2 && leb (n .earlier) 2 && leb (n .later) 2
 
 abbrev pub allNamed : ℕ → OutputNumbers → FrameNumbers → FrameNumbers → FrameNumbers → Bool
-allNamed quality output previous current following =
-    leb quality 3 && outputGood output && layoutsNamed previous && layoutsNamed current && layoutsNamed following
+allNamed quality output previous current next =
+    leb quality 3 && outputGood output && layoutsNamed previous && layoutsNamed current && layoutsNamed next
+
+abbrev pub askedNamed : ℕ → OutputNumbers → Conversion → FrameNumbers → FrameNumbers → FrameNumbers → Asked
+askedNamed quality output conversion previous current next = record {
+  quality = qualityNamed quality;
+  output = outputNamed output;
+  conversion = conversion;
+  previous = planesNamed previous;
+  current = planesNamed current;
+  next = planesNamed next;
+}
 
 -- 3: a code of the quality, of the output or of a layout names nothing; then as for `picture_of`
-abbrev pub pictureNamedTests : ℕ → OutputNumbers → FrameNumbers → FrameNumbers → FrameNumbers → Conversion → Frame → Frame → Frame → ℕ → List (ℕ × Bool)
-pictureNamedTests quality output previous current following conversion p c f room =
-    (3, allNamed quality output previous current following) ∷ pictureTests conversion p c f room
+abbrev pub namedTests : ℕ → OutputNumbers → Conversion → FrameNumbers → FrameNumbers → FrameNumbers → Frames → ℕ → List (ℕ × Bool)
+namedTests quality output conversion previous current next f room =
+    (3, allNamed quality output previous current next) ∷ pictureTests conversion (f .previous) (f .current) (f .next) room
 
-abbrev pub pictureNamedNo : ℕ → OutputNumbers → FrameNumbers → FrameNumbers → FrameNumbers → Conversion → Frame → Frame → Frame → ℕ → ℕ
-pictureNamedNo quality output previous current following conversion p c f room =
-    lowest (pictureNamedTests quality output previous current following conversion p c f room)
+-- the number, and what the output holds afterwards by the number, of what the call finds
+abbrev pub namedNo :
+    {A B C D E F G H I J : Type 0} → ℕ → OutputNumbers → Conversion → FrameNumbers → FrameNumbers → FrameNumbers → Both (RefT (List ℕ)) A
+    → Both (RefT (List ℕ)) B → Both (RefT (List ℕ)) C → Both (RefT (List ℕ)) D → Both (RefT (List ℕ)) E → Both (RefT (List ℕ)) F → Both (RefT (List ℕ)) G
+    → Both (RefT (List ℕ)) H → Both (RefT (List ℕ)) I → Both (RefT (List ℕ)) J → ℕ
+namedNo quality output conversion previous current next previous-luma previous-cb previous-cr current-luma current-cb current-cr next-luma next-cb next-cr out =
+    lowest
+    (namedTests quality output conversion previous current next
+    (framesLent (askedNamed quality output conversion previous current next) previous-luma previous-cb previous-cr current-luma current-cb current-cr
+    next-luma next-cb next-cr) (length (now (out .entry))))
+
+abbrev pub namedOut :
+    {A B C D E F G H I J : Type 0} → ℕ → ℕ → OutputNumbers → Conversion → FrameNumbers → FrameNumbers → FrameNumbers → Both (RefT (List ℕ)) A
+    → Both (RefT (List ℕ)) B → Both (RefT (List ℕ)) C → Both (RefT (List ℕ)) D → Both (RefT (List ℕ)) E → Both (RefT (List ℕ)) F → Both (RefT (List ℕ)) G
+    → Both (RefT (List ℕ)) H → Both (RefT (List ℕ)) I → Both (RefT (List ℕ)) J → List ℕ
+namedOut number quality output conversion previous current next previous-luma previous-cb previous-cr current-luma current-cb current-cr next-luma next-cb next-cr out =
+    let asked = askedNamed quality output conversion previous current next in
+    askedOut number asked
+    (framesLent asked previous-luma previous-cb previous-cr current-luma current-cb current-cr next-luma next-cb next-cr) (now (out .entry))

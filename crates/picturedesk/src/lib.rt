@@ -2,13 +2,8 @@
 // and byte slices, the answer a number of docs/RULES.md, "What the desk gets back".
 use numbers::PlaneNumbers;
 ghost use mathlib.Core.Path.{_≡_};
-ghost use lib.ListN.{length};
-ghost use Rattle.laws.specs.Refusal.{written};
-ghost use Rattle.laws.specs.Rows.{over};
-ghost use Rattle.picture.specs.Picture.{frameOf, pictureOf};
-ghost use Rattle.filter.specs.Rows.{qualityNamed};
-ghost use Rattle.picturedesk.specs.Inner.{cutPlanes};
-ghost use Rattle.picturedesk.specs.Pictures.{chosenNamed, sourceNamed, outputNamed, planesNamed, layoutsNamed, outputGood, allNamed, pictureNamedNo};
+ghost use Rattle.picturedesk.specs.Inner.{cutPlanes, cutAsked};
+ghost use Rattle.picturedesk.specs.Pictures.{chosenNamed, sourceNamed, outputNamed, planesNamed, layoutsNamed, outputGood, allNamed, askedNamed, namedNo, namedOut};
 
 // The shapes of a frame's three planes. Where two components share a plane, both name it, and the same
 // bytes are lent twice.
@@ -103,60 +98,77 @@ fn all_named(
     output: OutputNumbers,
     previous: FrameNumbers,
     current: FrameNumbers,
-    following: FrameNumbers,
+    next: FrameNumbers,
 ) -> bool
-    ensures { λ r. ⌜ r ≡ allNamed quality output previous current following ⌝ }
+    ensures { λ r. ⌜ r ≡ allNamed quality output previous current next ⌝ }
 {
     (quality <= 3)
         & output_good(output)
         & layouts_named(previous)
         & layouts_named(current)
-        & layouts_named(following)
+        & layouts_named(next)
+}
+
+// What the numbers name, with shapes as `numbers::shape_named` has them.
+fn asked_named(
+    quality: u8,
+    output: OutputNumbers,
+    conversion: colour::Conversion,
+    previous: FrameNumbers,
+    current: FrameNumbers,
+    next: FrameNumbers,
+) -> picture::Asked
+    ensures { λ r. ⌜ r ≡ cutAsked (askedNamed quality output conversion previous current next) ⌝ }
+{
+    picture::Asked {
+        quality: filter::Quality::named(quality),
+        output: output_named(output),
+        conversion: conversion,
+        previous: planes_named(previous),
+        current: planes_named(current),
+        next: planes_named(next),
+    }
 }
 
 // A picture of four bytes a pixel, red, green, blue and 255. The quality is 0 Weave, 1 Bob, 2 Yadif,
 // 3 Bwdif. Numbers 3 to 8.
 #[no_mangle]
-pub extern "C" fn desk_picture(
+pub extern "C" fn desk_picture<'a>(
     quality: u8,
     output: OutputNumbers,
     conversion: colour::Conversion,
     previous: FrameNumbers,
-    previous_luma: &[u8],
-    previous_cb: &[u8],
-    previous_cr: &[u8],
+    previous_luma: &'a [u8],
+    previous_cb: &'a [u8],
+    previous_cr: &'a [u8],
     current: FrameNumbers,
-    current_luma: &[u8],
-    current_cb: &[u8],
-    current_cr: &[u8],
-    following: FrameNumbers,
-    following_luma: &[u8],
-    following_cb: &[u8],
-    following_cr: &[u8],
+    current_luma: &'a [u8],
+    current_cb: &'a [u8],
+    current_cr: &'a [u8],
+    next: FrameNumbers,
+    next_luma: &'a [u8],
+    next_cb: &'a [u8],
+    next_cr: &'a [u8],
     out: &mut [u8],
 ) -> u8
-    ensures { λ r. ⌜ r ≡ pictureNamedNo quality output previous current following conversion (frameOf (planesNamed previous) (now («previous_luma» .entry)) (now («previous_cb» .entry)) (now («previous_cr» .entry))) (frameOf (planesNamed current) (now («current_luma» .entry)) (now («current_cb» .entry)) (now («current_cr» .entry))) (frameOf (planesNamed following) (now («following_luma» .entry)) (now («following_cb» .entry)) (now («following_cr» .entry))) (length (now (out .entry))) ⌝ }
-    ensures { λ r. ⌜ now (out .exit) ≡ written r (over (pictureOf (qualityNamed quality) (outputNamed output) conversion (frameOf (planesNamed previous) (now («previous_luma» .entry)) (now («previous_cb» .entry)) (now («previous_cr» .entry))) (frameOf (planesNamed current) (now («current_luma» .entry)) (now («current_cb» .entry)) (now («current_cr» .entry))) (frameOf (planesNamed following) (now («following_luma» .entry)) (now («following_cb» .entry)) (now («following_cr» .entry)))) (now (out .entry))) (now (out .entry)) ⌝ }
+    ensures { λ r. ⌜ r ≡ namedNo quality output conversion previous current next «previous_luma» «previous_cb» «previous_cr» «current_luma» «current_cb» «current_cr» «next_luma» «next_cb» «next_cr» out ⌝ }
+    ensures { λ r. ⌜ now (out .exit) ≡ namedOut r quality output conversion previous current next «previous_luma» «previous_cb» «previous_cr» «current_luma» «current_cb» «current_cr» «next_luma» «next_cb» «next_cr» out ⌝ }
 {
-    if !all_named(quality, output, previous, current, following) {
+    if !all_named(quality, output, previous, current, next) {
         return refusal::OUTSIDE;
     }
+    let asked = asked_named(quality, output, conversion, previous, current, next);
     picture::picture_of(
         out,
-        filter::Quality::named(quality),
-        output_named(output),
-        conversion,
-        planes_named(previous),
+        asked,
         previous_luma,
         previous_cb,
         previous_cr,
-        planes_named(current),
         current_luma,
         current_cb,
         current_cr,
-        planes_named(following),
-        following_luma,
-        following_cb,
-        following_cr,
+        next_luma,
+        next_cb,
+        next_cr,
     )
 }

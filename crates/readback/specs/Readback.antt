@@ -10,7 +10,6 @@ use denote.Triple.Both.{Both}
 use Rattle.laws.specs.Refusal.{lowest, written}
 use Rattle.laws.specs.Rows.{laid, over}
 use Rattle.plane.specs.declared.Shape.{Shape}
-use Rattle.plane.specs.declared.Layout.{Layout}
 use Rattle.plane.specs.declared.Layout.the-variants.{Luma, First, Second}
 use Rattle.plane.specs.Plane.{goodShape, planeBytes, sampleBytes, wordOf, half}
 use Rattle.readback.specs.declared.Readback.{Readback}

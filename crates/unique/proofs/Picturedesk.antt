@@ -6,8 +6,8 @@ use Rattle.picturedesk.proofs.desk_picture.Reads as desk-picture
 use Rattle.unique.specs.Unique.{OneAnswer}
 use Rattle.unique.proofs.Law.{same, _and_, once}
 
-pub desk-picture-once : OneAnswer 10 desk-picture-kinds.ps desk-picture-kinds.r desk-picture.Post
+pub desk-picture-once : OneAnswer 2 desk-picture-kinds.ps desk-picture-kinds.r desk-picture.Post
 desk-picture-once =
-    once 10 desk-picture-kinds.ps desk-picture-kinds.r desk-picture.Post (λ κs a x y s t p q. same (p .0) (q .0))
+    once 2 desk-picture-kinds.ps desk-picture-kinds.r desk-picture.Post (λ κs a x y s t p q. same (p .0) (q .0))
     (λ κs a x u v p q. refl and refl and refl and refl and refl and refl and refl and refl and refl and refl and refl and refl and refl and refl
     and refl and same (p .1) (q .1) and refl)

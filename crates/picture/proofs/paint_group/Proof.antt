@@ -1,112 +1,83 @@
 use mathlib.Core.Path.{_≡_, ap, _∙_}
-use mathlib.Core.List.{List}
 use Prim.Native.Nat.{ℕ, _+_, _*_, _/_, _%_, _≤_}
 use native.Mathlib.Nat.{mul-le-mul}
 use native.Mathlib.Omega.{arith}
 use borrow.Author.Needs.{needs}
-use lib.ListN.{length}
-use lib.Ieee.{Float}
 use denote.Ref.{now}
-use Rattle.laws.specs.Rows.{over}
 use Rattle.plane.specs.Plane.{half}
-use Rattle.filter.specs.Filter.{Sampler}
-use Rattle.fill.specs.Band.{bandOf}
-use Rattle.picture.specs.Picture.{Frame, frameOf, served, lumaIn, cbIn, crIn}
-use Rattle.filter.specs.declared.Rows.{Rows}
-use Rattle.picture.specs.Inner.{Ready}
-use Rattle.picture.proofs.Judged.{served-has, three-served}
+use Rattle.picture.specs.declared.Recipe.{Recipe}
+use Rattle.picture.specs.Inner.{Serving, servingIn, Paintable}
 use Rattle.picture.proofs.Painted.{group-rows}
 use Rattle.picture.proofs.paint_group.Statement.{statement}
 use Rattle.picture.proofs.paint_group.Tie as tie
 
--- the call's own values, and its frames
-abbrev entry : tie.After-shape → tie.Start
-entry s = s .before .before .before .before .before .before .before .before .before .before .before .before .before .before
+-- the call's own values, and the planes that serve
+abbrev entry : tie.After-conversion → tie.Start
+entry s = s .before .before .before .before .before .before .before .before .before .before .before .before .before .before .before .before
 
-abbrev previous-of : tie.After-shape → Frame
-previous-of s = let a = entry s .args in frameOf (a .previous) (now (a .previous-luma)) (now (a .previous-cb)) (now (a .previous-cr))
+abbrev lumas : tie.After-conversion → Serving
+lumas s = let a = entry s .args in servingIn (a .before-luma) (a .cur-luma) (a .after-luma)
 
-abbrev current-of : tie.After-shape → Frame
-current-of s = let a = entry s .args in frameOf (a .current) (now (a .current-luma)) (now (a .current-cb)) (now (a .current-cr))
+abbrev cbs : tie.After-conversion → Serving
+cbs s = let a = entry s .args in servingIn (a .before-cb) (a .cur-cb) (a .after-cb)
 
-abbrev following-of : tie.After-shape → Frame
-following-of s = let a = entry s .args in frameOf (a .following) (now (a .following-luma)) (now (a .following-cb)) (now (a .following-cr))
-
-abbrev before-of : tie.After-shape → Frame
-before-of s = served (entry s .args .before) (previous-of s) (current-of s) (following-of s)
-
-abbrev after-of : tie.After-shape → Frame
-after-of s = served (entry s .args .after) (previous-of s) (current-of s) (following-of s)
-
--- the samplers of a plane, of the frames that serve
-planes-served :
-    (s : tie.After-shape) (plane : Frame → Sampler) (width from count : ℕ) (old : List Float) →
-    let a = entry s .args in
-    over (bandOf (a .quality) (a .rows) (served (a .before) (plane (previous-of s)) (plane (current-of s)) (plane (following-of s))) (plane (current-of s))
-    (served (a .after) (plane (previous-of s)) (plane (current-of s)) (plane (following-of s))) width from count) old
-    ≡ over (bandOf (a .quality) (a .rows) (plane (before-of s)) (plane (current-of s)) (plane (after-of s)) width from count) old
-planes-served s plane width from count old =
-    let a = entry s .args in
-    λ i.
-    over
-    (bandOf (a .quality) (a .rows) (served-has plane (a .before) (previous-of s) (current-of s) (following-of s) i) (plane (current-of s))
-    (served-has plane (a .after) (previous-of s) (current-of s) (following-of s) i) width from count)
-    old
+abbrev crs : tie.After-conversion → Serving
+crs s = let a = entry s .args in servingIn (a .before-cr) (a .cur-cr) (a .after-cr)
 
 -- that the bands lie within, and have room
-record Within (cur : Frame) (from count : ℕ) : Type 0 where
-  luma-inside : from + count ≤ cur .shapes .luma .height
-  luma-room : count * cur .shapes .luma .width ≤ 65536
-  cb-inside : from / 2 + half count ≤ cur .shapes .cb .height
-  cb-room : half count * cur .shapes .cb .width ≤ 16384
-  cr-inside : from / 2 + half count ≤ cur .shapes .cr .height
-  cr-room : half count * cur .shapes .cr .width ≤ 16384
-  chroma-room : half count * half (cur .shapes .luma .width) ≤ 16384
+record Within (r : Recipe) (from count : ℕ) : Type 0 where
+  luma-inside : from + count ≤ r .luma .cur .height
+  luma-room : count * r .luma .cur .width ≤ 65536
+  cb-inside : from / 2 + half count ≤ r .cb .cur .height
+  cb-room : half count * r .cb .cur .width ≤ 16384
+  cr-inside : from / 2 + half count ≤ r .cr .cur .height
+  cr-room : half count * r .cr .cur .width ≤ 16384
+  chroma-room : half count * half (r .luma .cur .width) ≤ 16384
 
 bands-within :
-    {rows : Rows} (before cur after : Frame) (from count : ℕ) → Ready rows before cur after → from % 2 ≡ 0 → from + count ≤ cur .shapes .luma .height → count ≤ 8 →
-    Within cur from count
-bands-within before cur after from count r even inside few =
-    let chroma-inside : from / 2 + half count ≤ half (cur .shapes .luma .height) = omega arith in
+    {r : Recipe} {luma cb cr : Serving} (from count : ℕ) → Paintable r luma cb cr → from % 2 ≡ 0 → from + count ≤ r .luma .cur .height → count ≤ 8 →
+    Within r from count
+bands-within {r} from count p even inside few =
+    let chroma-inside : from / 2 + half count ≤ half (r .luma .cur .height) = omega arith in
     let few-chroma : half count ≤ 4 = omega arith in
-    let wide-chroma : half (cur .shapes .luma .width) ≤ 4096 = omega (arith, r .width-high) in
-    let room : half count * half (cur .shapes .luma .width) ≤ 16384 = mul-le-mul few-chroma wide-chroma in
+    let wide-chroma : half (r .luma .cur .width) ≤ 4096 = omega (arith, p .width-high) in
+    let room : half count * half (r .luma .cur .width) ≤ 16384 = mul-le-mul few-chroma wide-chroma in
     record {
       luma-inside = inside;
-      luma-room = mul-le-mul few (r .width-high);
-      cb-inside = omega (arith, chroma-inside, r .cb-height);
-      cb-room = omega (arith, room, ap (λ (n : ℕ). half count * n) (r .cb-width));
-      cr-inside = omega (arith, chroma-inside, r .cr-height);
-      cr-room = omega (arith, room, ap (λ (n : ℕ). half count * n) (r .cr-width));
+      luma-room = mul-le-mul few (p .width-high);
+      cb-inside = omega (arith, chroma-inside, p .cb-height);
+      cb-room = omega (arith, room, ap (λ (n : ℕ). half count * n) (p .cb-width));
+      cr-inside = omega (arith, chroma-inside, p .cr-height);
+      cr-room = omega (arith, room, ap (λ (n : ℕ). half count * n) (p .cr-width));
       chroma-room = room;
     }
 
-within : (s : tie.After-shape) → Within (current-of s) (entry s .args .from) (entry s .args .count)
+within : (s : tie.After-conversion) → Within (entry s .args .recipe) (entry s .args .from) (entry s .args .count)
 within s =
     let z = entry s in
     let asked = z .pre .1 .0 in
-    bands-within (before-of s) (current-of s) (after-of s) (z .args .from) (z .args .count) (z .pre .0) (asked .0) (asked .1) (asked .2)
+    bands-within (z .args .from) (z .args .count) (z .pre .0) (asked .0) (asked .1) (asked .2)
 
 add-chroma-count : tie.Need-add-chroma-count
 add-chroma-count c = search needs
 
-samples-with-requires : tie.Need-samples-with-requires
-samples-with-requires c κs =
+samples-requires : tie.Need-samples-requires
+samples-requires c κs =
     let s = c .before in
     let z = entry s in
-    (three-served (λ f. f .shapes .luma) (λ f. length (f .luma)) (z .args .before) (z .args .after) (previous-of s) (current-of s) (following-of s) (z .pre .0 .luma), (within s .luma-inside, omega (arith, within s .luma-room, z .pre .1 .1 .luma-room)))
+    (z .pre .0 .lumas, (within s .luma-inside, omega (arith, within s .luma-room, z .pre .1 .1 .luma-room)))
 
-samples-with-requires-2 : tie.Need-samples-with-requires-2
-samples-with-requires-2 c κs =
+samples-requires-2 : tie.Need-samples-requires-2
+samples-requires-2 c κs =
     let s = c .before .before .before .before .before in
     let z = entry s in
-    (three-served (λ f. f .shapes .cb) (λ f. length (f .cb)) (z .args .before) (z .args .after) (previous-of s) (current-of s) (following-of s) (z .pre .0 .cb), (within s .cb-inside, omega (arith, within s .cb-room, z .pre .1 .1 .cb-room)))
+    (z .pre .0 .cbs, (within s .cb-inside, omega (arith, within s .cb-room, z .pre .1 .1 .cb-room)))
 
-samples-with-requires-3 : tie.Need-samples-with-requires-3
-samples-with-requires-3 c κs =
+samples-requires-3 : tie.Need-samples-requires-3
+samples-requires-3 c κs =
     let s = c .before .before .before .before .before .before .before .before .before in
     let z = entry s in
-    (three-served (λ f. f .shapes .cr) (λ f. length (f .cr)) (z .args .before) (z .args .after) (previous-of s) (current-of s) (following-of s) (z .pre .0 .cr), (within s .cr-inside, omega (arith, within s .cr-room, z .pre .1 .1 .cr-room)))
+    (z .pre .0 .crs, (within s .cr-inside, omega (arith, within s .cr-room, z .pre .1 .1 .cr-room)))
 
 cast-paint-rows : tie.Need-cast-paint-rows
 cast-paint-rows c = search needs
@@ -146,20 +117,17 @@ returns c =
     let z = entry s in
     let a = z .args in
     c .before .before .paint-rows .ensures
-    ∙ group-rows (a .conversion) (a .quality) (a .rows) (before-of s) (current-of s) (after-of s) (a .from) (a .count) _ _ _ (now (a .luma)) (now (a .cb)) (now (a .cr))
-    (z .pre .0) (z .pre .1 .0 .0)
-    (c .before .before .before .before .before .before .before .before .before .before .before .before .before .before .before .before .before .before .samples-with .ensures ∙ planes-served s lumaIn (a .current .luma .width) (a .from) (a .count) (now (a .luma)))
-    (c .before .before .before .before .before .before .before .before .before .before .before .before .before .before .samples-with2 .ensures ∙ planes-served s cbIn (a .current .cb .width) (a .from / 2) (half (a .count)) (now (a .cb)))
-    (c .before .before .before .before .before .before .before .before .before .before .samples-with3 .ensures ∙ planes-served s crIn (a .current .cr .width) (a .from / 2) (half (a .count)) (now (a .cr)))
+    ∙ group-rows (a .recipe) (lumas s) (cbs s) (crs s) (a .from) (a .count) _ _ _ (now (a .luma)) (now (a .cb)) (now (a .cr)) (z .pre .0) (z .pre .1 .0 .0)
+    (c .before .before .before .before .before .before .before .before .before .before .before .before .before .before .before .before .before .before .samples .ensures) (c .before .before .before .before .before .before .before .before .before .before .before .before .before .before .samples2 .ensures) (c .before .before .before .before .before .before .before .before .before .before .samples3 .ensures)
 
 pub paint-group-spec : {M : Type 1} → statement M
 paint-group-spec =
     tie.close
     (tie.spec
     add-chroma-count
-    samples-with-requires
-    samples-with-requires-2
-    samples-with-requires-3
+    samples-requires
+    samples-requires-2
+    samples-requires-3
     cast-paint-rows
     paint-rows-requires
     same-length

@@ -5,58 +5,38 @@ use native.Mathlib.Nat.{add-mul, mul-le-mul, mul-le-mul-right}
 use native.Mathlib.Omega.{arith}
 use borrow.Author.Needs.{needs}
 use lib.ListN.{length}
-use denote.Ref.{now}
 use Rattle.laws.proofs.Lists.{Stacked, stack-starts, stacks-rows, stack-ends}
 use Rattle.laws.proofs.Rows.{length-part}
-use Rattle.picture.specs.Picture.{Frame, frameOf, served, pixelRow, pixelRows}
-use Rattle.picture.specs.Inner.{Rooms}
+use Rattle.picture.specs.Inner.{servingIn, Rooms, rowIn}
 use Rattle.picture.proofs.Painted.{length-row}
 use Rattle.picture.proofs.paint_groups.Statement.{statement}
 use Rattle.picture.proofs.paint_groups.Tie as tie
 
 -- the rows so far stand in the output, and the next group starts at an even row
 abbrev Inv-loop : tie.InvT-loop
-Inv-loop out₀ quality rows conversion before after previous previous-luma previous-cb previous-cr current current-luma current-cb current-cr following following-luma following-cb following-cr luma₀ cb₀ cr₀ shape from₀ out luma cb cr from =
+Inv-loop out₀ recipe before-luma cur-luma after-luma before-cb cur-cb after-cb before-cr cur-cr after-cr luma₀ cb₀ cr₀ shape from₀ out luma cb cr from =
     Stacked
-    (pixelRow conversion quality rows (served before (frameOf previous previous-luma previous-cb previous-cr) (frameOf current current-luma current-cb current-cr) (frameOf following following-luma following-cb following-cr)) (frameOf current current-luma current-cb current-cr)
-    (served after (frameOf previous previous-luma previous-cb previous-cr) (frameOf current current-luma current-cb current-cr) (frameOf following following-luma following-cb following-cr)) (current .luma .width))
-    (current .luma .width * 4) (current .luma .height) out₀ out from
-    × (from < current .luma .height → from % 2 ≡ 0) × Rooms luma cb cr
+    (rowIn recipe (record { before = before-luma; cur = cur-luma; after = after-luma }) (record { before = before-cb; cur = cur-cb; after = after-cb })
+    (record { before = before-cr; cur = cur-cr; after = after-cr }))
+    (recipe .luma .cur .width * 4) (recipe .luma .cur .height) out₀ out from
+    × (from < recipe .luma .cur .height → from % 2 ≡ 0) × Rooms luma cb cr
 
 abbrev μ-loop : tie.MeasureT-loop
-μ-loop out₀ quality rows conversion before after previous previous-luma previous-cb previous-cr current current-luma current-cb current-cr following following-luma following-cb following-cr luma₀ cb₀ cr₀ shape from₀ out luma cb cr from =
-    current .luma .height - from
+μ-loop out₀ recipe before-luma cur-luma after-luma before-cb cur-cb after-cb before-cr cur-cr after-cr luma₀ cb₀ cr₀ shape from₀ out luma cb cr from =
+    recipe .luma .cur .height - from
 
--- the call's own values, its frames and its rows
+-- the call's own values, and its rows
 abbrev entry : tie.At-loop Inv-loop μ-loop → tie.Start Inv-loop μ-loop
-entry l = l .before .before .before .before .before .before .before .before .before .before .before .before .before .before .before
-
-abbrev previous-of : tie.Start Inv-loop μ-loop → Frame
-previous-of z = let a = z .args in frameOf (a .previous) (now (a .previous-luma)) (now (a .previous-cb)) (now (a .previous-cr))
-
-abbrev current-of : tie.Start Inv-loop μ-loop → Frame
-current-of z = let a = z .args in frameOf (a .current) (now (a .current-luma)) (now (a .current-cb)) (now (a .current-cr))
-
-abbrev following-of : tie.Start Inv-loop μ-loop → Frame
-following-of z = let a = z .args in frameOf (a .following) (now (a .following-luma)) (now (a .following-cb)) (now (a .following-cr))
-
-abbrev before-of : tie.Start Inv-loop μ-loop → Frame
-before-of z = served (z .args .before) (previous-of z) (current-of z) (following-of z)
-
-abbrev after-of : tie.Start Inv-loop μ-loop → Frame
-after-of z = served (z .args .after) (previous-of z) (current-of z) (following-of z)
+entry l = l .before .before .before .before .before .before .before .before .before .before .before .before .before .before .before .before
 
 abbrev row-of : tie.At-loop Inv-loop μ-loop → ℕ → List ℕ
 row-of l =
     let a = entry l .args in
-    pixelRow (a .conversion) (a .quality) (a .rows) (before-of (entry l)) (current-of (entry l)) (after-of (entry l))
-    (a .current .luma .width)
+    rowIn (a .recipe) (servingIn (a .before-luma) (a .cur-luma) (a .after-luma)) (servingIn (a .before-cb) (a .cur-cb) (a .after-cb))
+    (servingIn (a .before-cr) (a .cur-cr) (a .after-cr))
 
-row-long : (l : tie.At-loop Inv-loop μ-loop) (y : ℕ) → length (row-of l y) ≡ entry l .args .current .luma .width * 4
-row-long l y =
-    let a = entry l .args in
-    length-row (a .conversion) (a .quality) (a .rows) (before-of (entry l)) (current-of (entry l)) (after-of (entry l))
-    (a .current .luma .width) y
+row-long : (l : tie.At-loop Inv-loop μ-loop) (y : ℕ) → length (row-of l y) ≡ entry l .args .recipe .luma .cur .width * 4
+row-long l y = length-row _ _ _ _ y
 
 -- a group: its rows, and where its bytes stand
 record Turn (from count height width out : ℕ) : Type 0 where
@@ -97,17 +77,17 @@ turn :
     (c : tie.After-group Inv-loop μ-loop) →
     let l = c .before .before .before .before in
     let a = entry l .args in
-    Turn (l .loop .from) (c .group .result) (a .current .luma .height) (a .current .luma .width) (length (l .loop .out))
+    Turn (l .loop .from) (c .group .result) (a .recipe .luma .cur .height) (a .recipe .luma .cur .width) (length (l .loop .out))
 turn c =
     let l = c .before .before .before .before in
     let z = entry l in
     let a = z .args in
     let below = c .before .before .if1 .taken in
-    turns (l .loop .from) (c .group .result) (a .current .luma .height) (a .current .luma .width) (length (l .loop .out)) below (z .pre .0 .height-high) (z .pre .0 .width-high)
+    turns (l .loop .from) (c .group .result) (a .recipe .luma .cur .height) (a .recipe .luma .cur .width) (length (l .loop .out)) below (z .pre .0 .height-high) (z .pre .0 .width-high)
     (l .loop .inv .1 below) (omega (arith, z .pre .1 .0, l .loop .inv .0 .long)) (c .group .ensures)
 
 loop-holds : tie.Need-loop-holds Inv-loop μ-loop
-loop-holds c = (stack-starts (λ y. length-row _ _ _ _ _ _ _ y), λ l. omega arith, c .before .before .before .before .before .before .before .before .before .before .before .before .before .before .pre .1 .1)
+loop-holds c = (stack-starts (λ y. length-row _ _ _ _ y), λ l. omega arith, c .before .before .before .before .before .before .before .before .before .before .before .before .before .before .before .pre .1 .1)
 
 sub-group : tie.Need-sub-group Inv-loop μ-loop
 sub-group c = omega (arith, c .before .if1 .taken)
@@ -156,7 +136,7 @@ loop-again c =
     let z = entry l in
     let t = turn (placed .before .before) in
     let rooms = l .loop .inv .2 in (
-      stacks-rows (row-of l) (z .args .current .luma .width * 4) (row-long l) (placed .before .before .group .result) (l .loop .inv .0) (t .inside) (z .pre .1 .0)
+      stacks-rows (row-of l) (z .args .recipe .luma .cur .width * 4) (row-long l) (placed .before .before .group .result) (l .loop .inv .0) (t .inside) (z .pre .1 .0)
           (placed .before .bytes-of .ensures) (placed .bytes-of2 .ensures) (c .before .before .before .before .before .before .before .before .paint-group .ensures),
       t .stays-even,
       record {
@@ -179,7 +159,6 @@ same-length-4 : tie.Need-same-length-4 Inv-loop μ-loop
 same-length-4 c = c .before .before .loop .inv .2 .cr-room ∙ sym (entry (c .before .before) .pre .1 .1 .cr-room)
 
 returns : tie.Need-returns Inv-loop μ-loop
-unfolding pixelRows
 returns c = let l = c .before .before in stack-ends (row-long l) (l .loop .inv .0) (omega (arith, c .if1 .left))
 
 pub paint-groups-spec : {M : Type 1} → statement M

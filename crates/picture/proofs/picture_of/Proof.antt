@@ -1,55 +1,39 @@
-use mathlib.Core.Path.{_≡_, refl, sym, subst, _∙_}
-use mathlib.Core.Bool.{true, _&&_}
-use mathlib.Core.List.{[], _∷_}
+use mathlib.Core.Path.{_≡_, sym, ap, subst, _∙_}
+use mathlib.Core.List.{List}
+use Prim.Native.Nat.{ℕ, _*_, _≤_}
 use borrow.Author.Needs.{needs}
-use lib.Dec.{leb}
+use borrow.Author.Tests.{ne-eqb}
 use lib.ListN.{length}
 use denote.Ref.{now}
 use Rattle.laws.specs.Refusal.{lowest}
 use Rattle.laws.specs.Rows.{over}
 use Rattle.laws.proofs.Refusal.{written-done}
-use Rattle.filter.specs.declared.Rows.{Rows}
-use Rattle.filter.specs.Rows.{goodRows}
+use Rattle.filter.specs.Rows.{rowsOf}
 use Rattle.filter.proofs.Claims.{output-rows-good}
-use Rattle.fill.proofs.Judged.{leaves}
-use Rattle.picture.specs.Picture.{Frame, frameOf, served, pixelRows, pictureNo}
-use Rattle.picture.proofs.Judged.{judged, has-room}
+use Rattle.picture.specs.declared.Recipe.{Recipe}
+use Rattle.picture.specs.Picture.{Frames, framesOf, qualityFor, pixelRows, askedNo}
+use Rattle.picture.specs.Inner.{rowsIn}
+use Rattle.picture.proofs.Judged.{picked, picked-served, judged, has-room, paintable-for}
+use Rattle.picture.proofs.Painted.{rows-served}
 use Rattle.picture.proofs.picture_of.Statement.{statement}
 use Rattle.picture.proofs.picture_of.Tie as tie
 
--- the call's frames
-abbrev previous-of : tie.Start → Frame
-previous-of z = let a = z .args in frameOf (a .previous) (now (a .previous-luma)) (now (a .previous-cb)) (now (a .previous-cr))
-
-abbrev current-of : tie.Start → Frame
-current-of z = let a = z .args in frameOf (a .current) (now (a .current-luma)) (now (a .current-cb)) (now (a .current-cr))
-
-abbrev following-of : tie.Start → Frame
-following-of z = let a = z .args in frameOf (a .following) (now (a .following-luma)) (now (a .following-cb)) (now (a .following-cr))
+-- the frames that are lent
+abbrev frames : tie.Start → Frames
+frames z =
+    let a = z .args in
+    framesOf (a .asked) (now (a .previous-luma)) (now (a .previous-cb)) (now (a .previous-cr)) (now (a .current-luma)) (now (a .current-cb))
+    (now (a .current-cr)) (now (a .next-luma)) (now (a .next-cb)) (now (a .next-cr))
 
 -- the call's number is the definition's
-abbrev entry : tie.After-lowest-of → tie.Start
-entry c = c .before .before .before .before .before .before .before .before .before .before .before .before .before .before .before .before .before .before .before .before .before .before .before .before .before
+abbrev entry : tie.After-test5 → tie.Start
+entry c = c .before .before .before .before .before .before .before .before .before .before .before .before .before .before .before .before .before .before .before .before .before .before .before .before .before .before .before .before .before .before .before .before
 
-number :
-    (c : tie.After-lowest-of) →
-    let z = entry c in
-    c .lowest-of .result ≡ pictureNo (z .args .conversion) (previous-of z) (current-of z) (following-of z) (length (now (z .args .out)))
+number : (c : tie.After-test5) → let z = entry c in c .test5 .result ≡ askedNo (z .args .asked) (frames z) (length (now (z .args .out)))
 unfolding lowest
 number c =
-    c .lowest-of .ensures
-    ∙ (λ i.
-    lowest
-    ((4, c .before .before .before .before .before .before .before .before .before .before .before .before .before .good-shapes .ensures i && c .before .before .before .before .before .before .before .before .before .before .before .before .good-shapes2 .ensures i && c .before .before .before .before .before .before .before .before .before .before .before .good-shapes3 .ensures i)
-    ∷ (
-      5,
-      c .before .before .before .before .before .before .before .before .before .before .planes-agree .ensures i && c .before .before .before .before .before .before .before .before .before .planes-agree2 .ensures i && c .before .before .before .before .before .before .before .before .chroma-fits .ensures i
-          && c .before .before .before .before .before .before .before .chroma-fits2 .ensures i && c .before .before .before .before .before .before .chroma-fits3 .ensures i,
-    )
-    ∷ (6, c .before .before .before .before .before .whole-frame .ensures i && c .before .before .before .before .whole-frame2 .ensures i && c .before .before .before .whole-frame3 .ensures i)
-    ∷ (7, leb (c .before .before .bytes-of .ensures i) (length (now (entry c .args .out))))
-    ∷ (8, c .before .good-conversion .ensures i)
-    ∷ []))
+    simp
+    (c .test5 .ensures, c .before .test4 .ensures, c .before .before .test3 .ensures, c .before .before .before .test2 .ensures, c .before .before .before .before .test .ensures, c .before .before .before .before .before .good-conversion .ensures, c .before .before .before .before .before .before .bytes-of .ensures, c .before .before .before .before .before .before .before .whole-frame3 .ensures, c .before .before .before .before .before .before .before .before .whole-frame2 .ensures, c .before .before .before .before .before .before .before .before .before .whole-frame .ensures, c .before .before .before .before .before .before .before .before .before .before .chroma-fits3 .ensures, c .before .before .before .before .before .before .before .before .before .before .before .chroma-fits2 .ensures, c .before .before .before .before .before .before .before .before .before .before .before .before .chroma-fits .ensures, c .before .before .before .before .before .before .before .before .before .before .before .before .before .planes-agree2 .ensures, c .before .before .before .before .before .before .before .before .before .before .before .before .before .before .planes-agree .ensures, c .before .before .before .before .before .before .before .before .before .before .before .before .before .before .before .good-shapes3 .ensures, c .before .before .before .before .before .before .before .before .before .before .before .before .before .before .before .before .good-shapes2 .ensures, c .before .before .before .before .before .before .before .before .before .before .before .before .before .before .before .before .before .good-shapes .ensures)
 
 good-shapes-requires : tie.Need-good-shapes-requires
 good-shapes-requires c κs = search needs
@@ -90,46 +74,90 @@ bytes-of-requires c κs = search needs
 good-conversion-requires : tie.Need-good-conversion-requires
 good-conversion-requires c κs = search needs
 
-lowest-of-requires : tie.Need-lowest-of-requires
-lowest-of-requires c κs = search needs
+test-requires : tie.Need-test-requires
+test-requires c κs = search needs
 
-quality-for-requires : tie.Need-quality-for-requires
-quality-for-requires c κs = search needs
+test-requires-2 : tie.Need-test-requires-2
+test-requires-2 c κs = search needs
 
-of-requires : tie.Need-of-requires
-of-requires c κs = search needs
+test-requires-3 : tie.Need-test-requires-3
+test-requires-3 c κs = search needs
+
+test-requires-4 : tie.Need-test-requires-4
+test-requires-4 c κs = search needs
+
+test-requires-5 : tie.Need-test-requires-5
+test-requires-5 c κs = search needs
+
+recipe-for-requires : tie.Need-recipe-for-requires
+recipe-for-requires c κs = search needs
+
+bytes-from-requires : tie.Need-bytes-from-requires
+bytes-from-requires c κs = search needs
+
+bytes-from-requires-2 : tie.Need-bytes-from-requires-2
+bytes-from-requires-2 c κs = search needs
+
+bytes-from-requires-3 : tie.Need-bytes-from-requires-3
+bytes-from-requires-3 c κs = search needs
+
+bytes-from-requires-4 : tie.Need-bytes-from-requires-4
+bytes-from-requires-4 c κs = search needs
+
+bytes-from-requires-5 : tie.Need-bytes-from-requires-5
+bytes-from-requires-5 c κs = search needs
+
+bytes-from-requires-6 : tie.Need-bytes-from-requires-6
+bytes-from-requires-6 c κs = search needs
 
 paint-requires : tie.Need-paint-requires
 paint-requires c κs =
-    let n = c .before .before .before .before in
+    let n = c .before .before .before .before .before .before .before .before .before .before in
     let z = entry n in
-    let done = sym (number n) ∙ c .before .before .before .if1 .taken in
-    let room = length (now (z .args .out)) in
-    let asked = subst (λ (rows : Rows). goodRows rows ≡ true) (sym (c .of .ensures)) (output-rows-good (z .args .output)) in (
-      judged (z .args .conversion) (previous-of z) (current-of z) (following-of z) room done (c .of .result) asked (z .args .output .before) (z .args .output .after),
-      has-room (z .args .conversion) (previous-of z) (current-of z) (following-of z) room done,
+    let a = z .args in
+    let f = frames z in
+    let done = sym (number n) ∙ c .before .before .before .before .before .before .before .before .before .if1 .taken in
+    let room = length (now (a .out)) in
+    let output = a .asked .output in
+    let recipe = c .before .before .before .before .before .before .recipe-for .ensures in (
+      paintable-for recipe (λ i. record { before = c .before .before .before .before .before .bytes-from .ensures i; cur = now (a .current-luma); after = c .before .before .before .before .bytes-from2 .ensures i }) (λ i. record { before = c .before .before .before .bytes-from3 .ensures i; cur = now (a .current-cb); after = c .before .before .bytes-from4 .ensures i }) (λ i. record { before = c .before .bytes-from5 .ensures i; cur = now (a .current-cr); after = c .bytes-from6 .ensures i })
+          (judged (a .asked .conversion) (f .previous) (f .current) (f .next) room done (qualityFor (output .field) (a .asked .quality)) (rowsOf output)
+          (output-rows-good output) (output .before) (output .after)),
+      subst (λ (r : Recipe). r .luma .cur .height * (r .luma .cur .width * 4) ≤ room) (sym recipe)
+          (has-room (a .asked .conversion) (f .previous) (f .current) (f .next) room done),
     )
 
 same-length : tie.Need-same-length
 same-length c = search needs
 
 returns : tie.Need-returns
-returns c =
-    let n = c .before .before .before .before .before .before .before in
+returns d =
+    let c = d .before .before .before in
+    let n = c .before .before .before .before .before .before .before .before .before .before in
     let z = entry n in
     let a = z .args in
+    let f = frames z in
+    let output = a .asked .output in
+    let quality = qualityFor (output .field) (a .asked .quality) in
+    let before = picked (output .before) (f .previous) (f .current) (f .next) in
+    let after = picked (output .after) (f .previous) (f .current) (f .next) in
     let made =
-    c .before .before .paint .ensures
+    d .before .before .paint .ensures
     ∙ (λ i.
     over
-    (pixelRows (a .conversion) (c .before .before .before .before .quality-for .ensures i) (c .before .before .before .of .ensures i)
-    (served (a .output .before) (previous-of z) (current-of z) (following-of z)) (current-of z)
-    (served (a .output .after) (previous-of z) (current-of z) (following-of z)))
-    (now (a .out))) in
-    (number n, written-done _ (now (a .out)) (sym (c .before .before .before .before .before .before .if1 .taken)) made)
+    (rowsIn (c .before .before .before .before .before .before .recipe-for .ensures i) (record { before = c .before .before .before .before .before .bytes-from .ensures i; cur = now (a .current-luma); after = c .before .before .before .before .bytes-from2 .ensures i }) (record { before = c .before .before .before .bytes-from3 .ensures i; cur = now (a .current-cb); after = c .before .before .bytes-from4 .ensures i })
+    (record { before = c .before .bytes-from5 .ensures i; cur = now (a .current-cr); after = c .bytes-from6 .ensures i }))
+    (now (a .out)))
+    ∙ ap (λ (rows : List ℕ). over rows (now (a .out)))
+    (rows-served (a .asked .conversion) quality (rowsOf output) before (f .current) after
+    ∙ (λ i.
+    pixelRows (a .asked .conversion) quality (rowsOf output) (picked-served (output .before) (f .previous) (f .current) (f .next) i) (f .current)
+    (picked-served (output .after) (f .previous) (f .current) (f .next) i)))
+    in
+    (number n, written-done _ (now (a .out)) (sym (c .before .before .before .before .before .before .before .before .before .if1 .taken)) made)
 
 returns-2 : tie.Need-returns-2
-returns-2 c = (number (c .before), leaves {n = c .before .lowest-of .result} _ refl (c .if1 .left) .1)
+returns-2 c = (number (c .before), simp (ne-eqb (c .before .test5 .result) 0 (c .if1 .left)))
 
 pub picture-of-spec : {M : Type 1} → statement M
 picture-of-spec =
@@ -148,9 +176,18 @@ picture-of-spec =
     whole-frame-requires-3
     bytes-of-requires
     good-conversion-requires
-    lowest-of-requires
-    quality-for-requires
-    of-requires
+    test-requires
+    test-requires-2
+    test-requires-3
+    test-requires-4
+    test-requires-5
+    recipe-for-requires
+    bytes-from-requires
+    bytes-from-requires-2
+    bytes-from-requires-3
+    bytes-from-requires-4
+    bytes-from-requires-5
+    bytes-from-requires-6
     paint-requires
     same-length
     returns

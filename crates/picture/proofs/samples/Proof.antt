@@ -14,7 +14,7 @@ same-length c = search needs
 -- the band's number is 0, so that it is written
 returns : tie.Need-returns
 returns c =
-    let z = c .before .before .before .before .before .before .before .before in
+    let z = c .before .before .before .before .before .before .before .before .before in
     let a = z .args in
     let old = now (a .out) in
     done-written old (band-done (a .from) (a .count) (length old) (z .pre .0) (z .pre .1 .0) (z .pre .1 .1)) (c .before .before .band .ensures .1)

@@ -1,4 +1,3 @@
--- `picturedesk::desk_picture` meets its contract: codes are tested here, and the rest is `picture::picture_of`'s own answer.
 use borrow.Author.Needs.{needs}
 use borrow.Author.Tests.{not-true, not-false}
 use Prim.Native.Nat.{ℕ}
@@ -7,12 +6,12 @@ use mathlib.Core.Bool.{Bool, false, cond}
 use mathlib.Core.List.{List, _∷_}
 use lib.ListN.{length}
 use denote.Ref.{now}
-use Rattle.laws.specs.Refusal.{lowest, written}
+use Rattle.laws.specs.Refusal.{lowest}
 use Rattle.laws.specs.Rows.{over}
 use Rattle.laws.proofs.Refusal.{number-behind, written-alike}
-use Rattle.picture.specs.Picture.{Frame, frameOf, pictureTests, pictureOf}
-use Rattle.filter.specs.Rows.{qualityNamed}
-use Rattle.picturedesk.specs.Pictures.{outputNamed, planesNamed, allNamed}
+use Rattle.picture.specs.declared.Asked.{Asked}
+use Rattle.picture.specs.Picture.{Frames, framesOf, pictureTests, pictureOf, askedOut}
+use Rattle.picturedesk.specs.Pictures.{askedNamed, allNamed}
 use Rattle.picturedesk.proofs.Cut.{picture-number, picture-same}
 use Rattle.picturedesk.proofs.desk_picture.Statement.{statement}
 use Rattle.picturedesk.proofs.desk_picture.Tie as tie
@@ -28,20 +27,8 @@ refused named tests e = ap (λ (b : Bool). cond b (lowest tests) 3) (sym e)
 returns : tie.Need-returns
 returns c = (refused _ _ (sym (c .before .all-named .ensures) ∙ not-true _ (c .if1 .taken)), refl)
 
-quality-named-requires : tie.Need-quality-named-requires
-quality-named-requires c κs = search needs
-
-output-named-requires : tie.Need-output-named-requires
-output-named-requires c κs = search needs
-
-planes-named-requires : tie.Need-planes-named-requires
-planes-named-requires c κs = search needs
-
-planes-named-requires-2 : tie.Need-planes-named-requires-2
-planes-named-requires-2 c κs = search needs
-
-planes-named-requires-3 : tie.Need-planes-named-requires-3
-planes-named-requires-3 c κs = search needs
+asked-named-requires : tie.Need-asked-named-requires
+asked-named-requires c κs = search needs
 
 picture-of-requires : tie.Need-picture-of-requires
 picture-of-requires c κs = search needs
@@ -49,54 +36,39 @@ picture-of-requires c κs = search needs
 same-length : tie.Need-same-length
 same-length c = search needs
 
+-- the frames with the bytes that are lent
+abbrev frames : tie.Start → Asked → Frames
+frames z asked =
+    let a = z .args in
+    framesOf asked (now (a .previous-luma)) (now (a .previous-cb)) (now (a .previous-cr)) (now (a .current-luma)) (now (a .current-cb)) (now (a .current-cr))
+    (now (a .next-luma)) (now (a .next-cb)) (now (a .next-cr))
+
 returns-2 : tie.Need-returns-2
 returns-2 c =
     let k = c .before .before in
-    let a = k .before .before .before .before .before .before .before .before .before .before .before .before .before .before .before .before .before .before .before .args in
-    let previous = k .before .before .before .planes-named .ensures in
-    let current = k .before .before .planes-named2 .ensures in
-    let following = k .before .planes-named3 .ensures in
-    let output = k .before .before .before .before .output-named .ensures in
-    let quality = k .before .before .before .before .before .quality-named .ensures in
-    let named = sym (k .before .before .before .before .before .before .before .before .all-named .ensures) ∙ not-false _ (k .before .before .before .before .before .before .before .if1 .left) in
-    let p = frameOf (planesNamed (a .previous)) (now (a .previous-luma)) (now (a .previous-cb)) (now (a .previous-cr)) in
-    let c = frameOf (planesNamed (a .current)) (now (a .current-luma)) (now (a .current-cb)) (now (a .current-cr)) in
-    let f = frameOf (planesNamed (a .following)) (now (a .following-luma)) (now (a .following-cb)) (now (a .following-cr)) in
-    let all = allNamed (a .quality) (a .output) (a .previous) (a .current) (a .following) in
+    let z = k .before .before .before .before .before .before .before .before .before .before .before .before .before .before .before in
+    let a = z .args in
+    let named = sym (k .before .before .before .before .all-named .ensures) ∙ not-false _ (k .before .before .before .if1 .left) in
+    let asked = k .before .before .asked-named .ensures in
+    let given = askedNamed (a .quality) (a .output) (a .conversion) (a .previous) (a .current) (a .next) in
+    let f = frames z given in
+    let all = allNamed (a .quality) (a .output) (a .previous) (a .current) (a .next) in
     let number =
     k .picture-of .ensures .0
     ∙ number-behind 3 named
     (λ i.
-    pictureTests (a .conversion) (frameOf (previous i) (now (a .previous-luma)) (now (a .previous-cb)) (now (a .previous-cr)))
-    (frameOf (current i) (now (a .current-luma)) (now (a .current-cb)) (now (a .current-cr)))
-    (frameOf (following i) (now (a .following-luma)) (now (a .following-cb)) (now (a .following-cr))) (length (now (a .out))))
-    ∙ picture-number all (a .conversion) p c f (length (now (a .out)))
+    let g = frames z (asked i) in
+    pictureTests (asked i .conversion) (g .previous) (g .current) (g .next) (length (now (a .out))))
+    ∙ picture-number all (a .conversion) (f .previous) (f .current) (f .next) (length (now (a .out)))
     in (
       number,
       k .picture-of .ensures .1
-          ∙ (λ i.
-          written (k .picture-of .result)
-          (over
-          (pictureOf (quality i) (output i) (a .conversion) (frameOf (previous i) (now (a .previous-luma)) (now (a .previous-cb)) (now (a .previous-cr)))
-          (frameOf (current i) (now (a .current-luma)) (now (a .current-cb)) (now (a .current-cr)))
-          (frameOf (following i) (now (a .following-luma)) (now (a .following-cb)) (now (a .following-cr)))) (now (a .out))) (now (a .out)))
+          ∙ (λ i. askedOut (k .picture-of .result) (asked i) (frames z (asked i)) (now (a .out)))
           ∙ written-alike (k .picture-of .result) (now (a .out))
           (λ z.
-          let same = picture-same all (a .conversion) p c f (length (now (a .out))) (sym number ∙ z) in
-          λ i. over (pictureOf (qualityNamed (a .quality)) (outputNamed (a .output)) (a .conversion) (same .0 i) (same .1 i) (same .2 i)) (now (a .out))),
+          let same = picture-same all (a .conversion) (f .previous) (f .current) (f .next) (length (now (a .out))) (sym number ∙ z) in
+          λ i. over (pictureOf (given .quality) (given .output) (a .conversion) (same .0 i) (same .1 i) (same .2 i)) (now (a .out))),
     )
 
 pub desk-picture-spec : {M : Type 1} → statement M
-desk-picture-spec =
-    tie.close
-    (tie.spec
-    all-named-requires
-    returns
-    quality-named-requires
-    output-named-requires
-    planes-named-requires
-    planes-named-requires-2
-    planes-named-requires-3
-    picture-of-requires
-    same-length
-    returns-2)
+desk-picture-spec = tie.close (tie.spec all-named-requires returns asked-named-requires picture-of-requires same-length returns-2)
