@@ -1,5 +1,5 @@
 -- What a shape within the bounds has, number by number.
-use Prim.Native.Nat.{ℕ, _≤_}
+use Prim.Native.Nat.{_≤_}
 use mathlib.Core.Path.{_≡_}
 use mathlib.Core.Bool.{Bool, true, _&&_}
 use borrow.Author.Tests.{leb-true}
