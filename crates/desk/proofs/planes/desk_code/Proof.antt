@@ -1,9 +1,9 @@
 -- Where the number is 0 both coordinates are inside a plane within the bounds, so that they fit their
 -- places and the cut shape is the shape as given.
 use Prim.Native.Nat.{ℕ, _≤_, _<_}
-use mathlib.Core.Path.{_≡_, refl, sym, ap, subst, _∙_}
-use mathlib.Core.Bool.{Bool, true, _&&_}
-use native.Mathlib.Nat.{lt-of-lt-of-le, lt-trans, lt-of-le-of-lt}
+use mathlib.Core.Path.{_≡_, sym, subst, _∙_}
+use mathlib.Core.Bool.{true, _&&_}
+use native.Mathlib.Nat.{lt-of-lt-of-le, lt-trans}
 use lib.Dec.{T, leb, lit<}
 use lib.IntN.{ℤ, natAbs}
 use lib.Signed.{nonNeg}
