@@ -3,7 +3,8 @@ use Prim.Native.Nat.{ℕ, _*_}
 use mathlib.Core.Bool.{Bool, _&&_}
 use mathlib.Core.List.{List, [], _∷_}
 use lib.Dec.{leb}
-use Rattle.laws.specs.Refusal.{lowest}
+use lib.ListN.{length}
+use Rattle.laws.specs.Refusal.{lowest, whenDone}
 use Rattle.plane.specs.declared.Shape.{Shape}
 use Rattle.plane.specs.Plane.{goodShape, planeBytes}
 use Rattle.block.specs.declared.Counts.{Counts}
@@ -30,6 +31,9 @@ countTests s bytes room = (4, goodShape s) ∷ (6, leb (planeBytes s) bytes && l
 
 abbrev pub countNo : Shape → ℕ → ℕ → ℕ
 countNo s bytes room = lowest (countTests s bytes room)
+
+abbrev pub countValues : List ℕ → Shape → List ℕ → ℕ → List Counts
+countValues bytes s store parity = whenDone (countNo s (length bytes) (length store)) (countsOf bytes s store parity)
 
 -- 4 and 6 as for a read; 7: the store is too short for the frame that is kept in it.
 abbrev pub keepTests : Shape → ℕ → ℕ → List (ℕ × Bool)

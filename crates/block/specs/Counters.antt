@@ -12,6 +12,10 @@ use Rattle.block.specs.Block.{keptOf, storedOf, oneIf, differs, columnsI
 abbrev pub differingIn : (ℕ → ℕ) → (ℕ → ℕ) → ℕ → ℕ → ℕ
 differingIn new old width b = sumOver (columnsIn width b) (λ x. oneIf (differs (new (16 * b + x)) (old (16 * b + x))))
 
+-- those of rows that stand in two lists
+abbrev pub differingLists : List ℕ → List ℕ → ℕ → ℕ
+differingLists new old = differingIn (λ x. getD new x 0) (λ x. getD old x 0) (length new)
+
 -- those of row y of a picture and of the kept frame
 abbrev pub differingRow : List ℕ → Shape → List ℕ → ℕ → ℕ → ℕ
 differingRow bytes s store y = differingIn (λ x. keptOf bytes s x y) (λ x. storedOf store (s .width) x y) (s .width)
@@ -20,7 +24,7 @@ differingRow bytes s store y = differingIn (λ x. keptOf bytes s x y) (λ x. sto
 abbrev pub bandRow : List ℕ → Shape → List ℕ → ℕ → ℕ → ℕ → ℕ → ℕ
 bandRow bytes s store first top i = differingRow bytes s store (2 * (top + i) + first)
 
--- the busy blocks of a band of so many rows, whose blocks have `count` differing samples each
+-- the busy blocks of a band of `rows` rows, whose block b has `count b` differing samples
 abbrev pub busyBy : ℕ → ℕ → (ℕ → ℕ) → ℕ
 busyBy width rows count = sumOver (blocksAcross width) (λ b. oneIf (ltb (columnsIn width b * rows) (4 * count b)))
 

@@ -9,7 +9,7 @@ use Rattle.plane.specs.Plane.{goodShape, planeBytes}
 use Rattle.block.specs.Block.{keptOf}
 
 -- What a call that gets 0 has passed: the shape is within the bounds, the plane has the bytes that it needs, the store has room for the frame.
-pub record Ready (s : Shape) (bytes room : ℕ) : Type 0 where
+pub record PictureReady (s : Shape) (bytes room : ℕ) : Type 0 where
   pub good : goodShape s ≡ true
   pub long : planeBytes s ≤ bytes
   pub roomy : s .height * s .width ≤ room

@@ -8,15 +8,15 @@ ghost use mathlib.Core.Path.{_≡_};
 ghost use Prim.Native.Nat.{_+_, _*_, _<_, _≤_, min};
 ghost use lib.Dec.{ltb};
 ghost use lib.ListN.{length, getD, take, drop};
-ghost use Rattle.laws.specs.Refusal.{whenDone, written};
+ghost use Rattle.laws.specs.Refusal.{written};
 ghost use Rattle.laws.specs.Rows.{listed, over};
 ghost use Rattle.laws.specs.Sums.{sumOver, apart};
 ghost use Rattle.field.specs.Field.{firstRowOf};
 ghost use Rattle.plane.specs.Plane.{gridShape};
 ghost use Rattle.block.specs.Block.{keptOf, keptFrame, rowsOf, oneIf, differs, blocksAcross, bandsDown, totalOf, busyField};
-ghost use Rattle.block.specs.Answer.{countedNo, countedValues, countsOf, countNo, keepNo};
-ghost use Rattle.block.specs.Rows.{Ready, RowReady, KeptRow, pairKept};
-ghost use Rattle.block.specs.Counters.{differingIn, differingRow, bandRow, busyBy, Counters, Added};
+ghost use Rattle.block.specs.Answer.{countedNo, countedValues, countsOf, countNo, countValues, keepNo};
+ghost use Rattle.block.specs.Rows.{PictureReady, RowReady, KeptRow, pairKept};
+ghost use Rattle.block.specs.Counters.{differingLists, differingRow, bandRow, busyBy, Counters, Added};
 use plane::Grid;
 
 // Busy blocks, and all blocks, of a field.
@@ -151,7 +151,8 @@ fn bands(rows: usize) -> usize
 // Adds to the counter of each block of 16 columns the differing samples of two rows there.
 fn add_row(counters: &mut [u32; 512], new: &[u8], old: &[u8])
     requires { ⌜ Counters (now counters) (length (now new)) × (length (now new) ≡ length (now old)) ⌝ }
-    ensures { λ _. ⌜ (length (now (counters .exit)) ≡ 512) × Added (now (counters .entry)) (now (counters .exit)) (differingIn (λ x. getD (now (new .entry)) x 0) (λ x. getD (now (old .entry)) x 0) (length (now (new .entry)))) (blocksAcross (length (now (new .entry)))) ⌝ }
+    ensures { λ _. ⌜ length (now (counters .exit)) ≡ 512 ⌝ }
+    ensures { λ _. ⌜ Added (now (counters .entry)) (now (counters .exit)) (differingLists (now (new .entry)) (now (old .entry))) (blocksAcross (length (now (new .entry)))) ⌝ }
 {
     let width = new.len();
     let blocks = across(width);
@@ -174,8 +175,9 @@ fn add_row_of(
     store: &[u8],
     y: usize,
 )
-    requires { ⌜ Ready (gridShape grid) (length (now plane)) (length (now store)) × (y < grid .height) × (length (now row) ≡ grid .width) × Counters (now counters) (grid .width) ⌝ }
-    ensures { λ _. ⌜ (length (now (counters .exit)) ≡ 512) × Added (now (counters .entry)) (now (counters .exit)) (differingRow (now (plane .entry)) (gridShape grid) (now (store .entry)) y) (blocksAcross (grid .width)) ⌝ }
+    requires { ⌜ PictureReady (gridShape grid) (length (now plane)) (length (now store)) × (y < grid .height) × (length (now row) ≡ grid .width) × Counters (now counters) (grid .width) ⌝ }
+    ensures { λ _. ⌜ length (now (counters .exit)) ≡ 512 ⌝ }
+    ensures { λ _. ⌜ Added (now (counters .entry)) (now (counters .exit)) (differingRow (now (plane .entry)) (gridShape grid) (now (store .entry)) y) (blocksAcross (grid .width)) ⌝ }
 {
     let width = grid.width as usize;
     let old = part_at(store, y * width, width);
@@ -225,7 +227,7 @@ fn band(
     top: usize,
     rows: usize,
 ) -> u64
-    requires { ⌜ Ready (gridShape grid) (length (now plane)) (length (now store)) × (first ≤ 1) × (top + rows ≤ rowsOf (grid .height) first) × (rows ≤ 8) × (length (now row) ≡ grid .width) ⌝ }
+    requires { ⌜ PictureReady (gridShape grid) (length (now plane)) (length (now store)) × (first ≤ 1) × (top + rows ≤ rowsOf (grid .height) first) × (rows ≤ 8) × (length (now row) ≡ grid .width) ⌝ }
     ensures { λ r. ⌜ (r ≡ busyBy (grid .width) rows (λ b. sumOver rows (λ i. bandRow (now (plane .entry)) (gridShape grid) (now (store .entry)) first top i b))) × (r ≤ 512) ⌝ }
 {
     let mut counters = [0u32; 512];
@@ -247,7 +249,7 @@ fn busy_rows(
     first: usize,
     rows: usize,
 ) -> u64
-    requires { ⌜ Ready (gridShape grid) (length (now plane)) (length (now store)) × (first ≤ 1) × (rows ≡ rowsOf (grid .height) first) × (length (now row) ≡ grid .width) ⌝ }
+    requires { ⌜ PictureReady (gridShape grid) (length (now plane)) (length (now store)) × (first ≤ 1) × (rows ≡ rowsOf (grid .height) first) × (length (now row) ≡ grid .width) ⌝ }
     ensures { λ r. ⌜ r ≡ busyField (now (plane .entry)) (gridShape grid) (now (store .entry)) first ⌝ }
 {
     let n = bands(rows);
@@ -277,7 +279,7 @@ fn total_of(width: u16, rows: usize) -> u64
 
 // The buffer for rows that are kept first is made once.
 fn counts_of(plane: &[u8], grid: Grid, store: &[u8], first: usize) -> Counts
-    requires { ⌜ Ready (gridShape grid) (length (now plane)) (length (now store)) × (first ≤ 1) ⌝ }
+    requires { ⌜ PictureReady (gridShape grid) (length (now plane)) (length (now store)) × (first ≤ 1) ⌝ }
     ensures { λ r. ⌜ r ≡ countsOf (now (plane .entry)) (gridShape grid) (now (store .entry)) first ⌝ }
 {
     let mut row = [0u8; 8192];
@@ -303,13 +305,12 @@ fn count_no(grid: Grid, bytes: usize, room: usize) -> u8
     ensures { λ r. ⌜ r ≡ countNo (gridShape grid) bytes room ⌝ }
 {
     let shape = plane::shape_of(grid);
-    refusal::lowest_of(
-        true,
-        plane::good_shape(shape),
-        true,
-        (plane::plane_bytes(shape) <= bytes) & (frame_bytes(grid) <= room),
-        true,
-        true,
+    let good = plane::good_shape(shape);
+    let long = (plane::plane_bytes(shape) <= bytes) & (frame_bytes(grid) <= room);
+    refusal::test(
+        refusal::SHAPE,
+        good,
+        refusal::test(refusal::SHORT_INPUT, long, refusal::DONE),
     )
 }
 
@@ -317,13 +318,14 @@ fn keep_no(grid: Grid, bytes: usize, room: usize) -> u8
     ensures { λ r. ⌜ r ≡ keepNo (gridShape grid) bytes room ⌝ }
 {
     let shape = plane::shape_of(grid);
-    refusal::lowest_of(
-        true,
-        plane::good_shape(shape),
-        true,
-        plane::plane_bytes(shape) <= bytes,
-        frame_bytes(grid) <= room,
-        true,
+    let good = plane::good_shape(shape);
+    let long = plane::plane_bytes(shape) <= bytes;
+    let fits = frame_bytes(grid) <= room;
+    let output = refusal::test(refusal::SHORT_OUTPUT, fits, refusal::DONE);
+    refusal::test(
+        refusal::SHAPE,
+        good,
+        refusal::test(refusal::SHORT_INPUT, long, output),
     )
 }
 
@@ -333,7 +335,8 @@ fn keep_no(grid: Grid, bytes: usize, room: usize) -> u8
 // which the store keeps. Words are read as they stand: a biplanar luma deeper than 8 bits goes through
 // readback first.
 pub fn count(plane: &[u8], grid: plane::Grid, store: &[u8], parity: field::Parity) -> Counted
-    ensures { λ r. ⌜ (countedNo r ≡ countNo (gridShape grid) (length (now (plane .entry))) (length (now (store .entry)))) × (countedValues r ≡ whenDone (countNo (gridShape grid) (length (now (plane .entry))) (length (now (store .entry)))) (countsOf (now (plane .entry)) (gridShape grid) (now (store .entry)) (firstRowOf parity))) ⌝ }
+    ensures { λ r. ⌜ countedNo r ≡ countNo (gridShape grid) (length (now (plane .entry))) (length (now (store .entry))) ⌝ }
+    ensures { λ r. ⌜ countedValues r ≡ countValues (now (plane .entry)) (gridShape grid) (now (store .entry)) (firstRowOf parity) ⌝ }
 {
     let no = count_no(grid, plane.len(), store.len());
     if no == 0 {
@@ -345,7 +348,7 @@ pub fn count(plane: &[u8], grid: plane::Grid, store: &[u8], parity: field::Parit
 
 // Each row of a picture, kept behind the one above it.
 fn keep_rows(store: &mut [u8], plane: &[u8], grid: Grid)
-    requires { ⌜ Ready (gridShape grid) (length (now plane)) (length (now store)) ⌝ }
+    requires { ⌜ PictureReady (gridShape grid) (length (now plane)) (length (now store)) ⌝ }
     ensures { λ _. ⌜ now (store .exit) ≡ over (keptFrame (now (plane .entry)) (gridShape grid)) (now (store .entry)) ⌝ }
 {
     let width = grid.width as usize;
@@ -361,12 +364,11 @@ fn keep_rows(store: &mut [u8], plane: &[u8], grid: Grid)
 // Keeps a picture, its words read as they stand, as 8 bits at the store's front.
 pub fn keep(store: &mut [u8], plane: &[u8], grid: plane::Grid) -> u8
     ensures { λ r. ⌜ r ≡ keepNo (gridShape grid) (length (now (plane .entry))) (length (now (store .entry))) ⌝ }
-    ensures { λ _. ⌜ now (store .exit) ≡ written (keepNo (gridShape grid) (length (now (plane .entry))) (length (now (store .entry)))) (over (keptFrame (now (plane .entry)) (gridShape grid)) (now (store .entry))) (now (store .entry)) ⌝ }
+    ensures { λ r. ⌜ now (store .exit) ≡ written r (over (keptFrame (now (plane .entry)) (gridShape grid)) (now (store .entry))) (now (store .entry)) ⌝ }
 {
     let no = keep_no(grid, plane.len(), store.len());
     if no == 0 {
         keep_rows(store, plane, grid);
-        return no;
     }
     no
 }

@@ -185,32 +185,35 @@ fn comb_no(width: u16, height: u16, depth: u8, stride: u32, bytes: usize) -> u8
         stride: stride,
         layout: Layout::Planar,
     };
-    refusal::lowest_of(
-        true,
+    refusal::test(
+        refusal::SHAPE,
         plane::good_shape(shape),
-        true,
-        plane::plane_bytes(shape) <= bytes,
-        true,
-        true,
+        refusal::test(
+            refusal::SHORT_INPUT,
+            plane::plane_bytes(shape) <= bytes,
+            refusal::DONE,
+        ),
     )
 }
 
 fn rgba_no(width: u16, height: u16, bytes: usize) -> u8
     ensures { λ r. ⌜ r ≡ rgbaNo width height bytes ⌝ }
 {
-    refusal::lowest_of(
-        true,
+    refusal::test(
+        refusal::SHAPE,
         (1 <= width) & (width <= 8192) & (1 <= height) & (height <= 4352),
-        true,
-        (height as usize) * (width as usize) * 4 <= bytes,
-        true,
-        true,
+        refusal::test(
+            refusal::SHORT_INPUT,
+            (height as usize) * (width as usize) * 4 <= bytes,
+            refusal::DONE,
+        ),
     )
 }
 
 // The comb of a plane of one component a sample, its codes as they stand.
 pub fn comb(plane: &[u8], width: u16, height: u16, depth: u8, stride: u32) -> Combed
-    ensures { λ r. ⌜ (combedNo r ≡ combNo width height depth stride (length (now (plane .entry)))) × (combedValues r ≡ whenDone (combNo width height depth stride (length (now (plane .entry)))) (planeComb (now (plane .entry)) width height depth stride)) ⌝ }
+    ensures { λ r. ⌜ combedNo r ≡ combNo width height depth stride (length (now (plane .entry))) ⌝ }
+    ensures { λ r. ⌜ combedValues r ≡ whenDone (combNo width height depth stride (length (now (plane .entry)))) (planeComb (now (plane .entry)) width height depth stride) ⌝ }
 {
     let no = comb_no(width, height, depth, stride, plane.len());
     if no == 0 {

@@ -1,7 +1,7 @@
-// Bytes copied from one part of memory to another.
+// Bytes copied from one part of memory to another, and parts of them.
 ghost use mathlib.Core.Path.{_≡_};
-ghost use Prim.Native.Nat.{_≤_, min};
-ghost use lib.ListN.{length, take};
+ghost use Prim.Native.Nat.{_+_, _≤_, min};
+ghost use lib.ListN.{length, take, drop};
 ghost use Rattle.laws.specs.Rows.{over};
 
 const BLOCK: usize = 4096;
@@ -42,6 +42,16 @@ fn smaller(a: usize, b: usize) -> usize
     ensures { λ r. ⌜ r ≡ min a b ⌝ }
 {
     if a < b { a } else { b }
+}
+
+// The n bytes from `start` on, or as many of them as there are.
+pub fn part<'a>(bytes: &'a [u8], start: usize, n: usize) -> &'a [u8]
+    ensures { λ r. ⌜ now r ≡ take n (drop start (now (bytes .entry))) ⌝ }
+    ensures { λ r. ⌜ r .ptr ≡ (bytes .entry .ptr .0, min start (length (now (bytes .entry))) + bytes .entry .ptr .1) ⌝ }
+{
+    let from = smaller(start, bytes.len());
+    let size = smaller(n, bytes.len() - from);
+    &bytes[from..from + size]
 }
 
 // Copies the front of src over the front of dst: as many bytes as both have.

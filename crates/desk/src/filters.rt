@@ -115,7 +115,7 @@ pub extern "C" fn desk_plane(
     fill::plane(
         out,
         filter::Quality::named(quality),
-        field::Parity::named(first as u32),
+        field::Parity::named(first as u64),
         before,
         numbers::shape_named(before_shape),
         cur,

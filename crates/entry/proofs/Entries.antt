@@ -3,7 +3,7 @@
 use Prim.Native.Nat.{ℕ, zero, suc, _+_, _-_, _<_, _≤_}
 use native.Mathlib.Numerals.{add-one}
 use native.Mathlib.Omega.{arith}
-use mathlib.Core.Path.{_≡_, refl, ap, ap₂, _∙_}
+use mathlib.Core.Path.{_≡_, refl, sym, ap, ap₂, _∙_}
 use mathlib.Core.List.{List, [], _∷_, _++_}
 use lib.ListN.{length, getD, take, drop}
 use lib.Seq.{getD-take, take-at, drop-at}
@@ -14,17 +14,15 @@ use Rattle.laws.proofs.Lists.{length-listed, same-listed, listed-at}
 use Rattle.field.specs.declared.Parity.{Parity}
 use Rattle.field.specs.declared.Chosen.{Chosen}
 use Rattle.field.specs.declared.Chosen.the-variants as chosen
-use Rattle.field.specs.Field.{parityNamed}
+use Rattle.field.specs.Field.{parityNamed, cadenceNumber}
 use Rattle.pulldown.specs.declared.Seen.{Seen}
-use Rattle.pulldown.specs.Lock.{pushNo, lockOf}
-use Rattle.pulldown.specs.Codes.{codeOf, seenBy, seenBefore, cadenceOfCode}
+use Rattle.pulldown.specs.Codes.{seenCode, seenBy, seenBefore, cadenceOfCode}
 use Rattle.pulldown.specs.Codes as codes
 use Rattle.pulldown.proofs.Claims.{code-seen}
-use Rattle.telecine.specs.declared.Detector.{Detector}
 use Rattle.telecine.specs.declared.Measured.{Measured}
 use Rattle.telecine.specs.Detector.{seenMeasured}
-use Rattle.telecine.specs.History.{after, numberOf, lastParity, seenOf, seens, framesOf, taken}
-use Rattle.telecine.proofs.Claims.{refusal-known}
+use Rattle.telecine.specs.History.{numberOf, lastParity, seenOf, seens, framesOf, taken}
+use Rattle.telecine.proofs.Claims.{refusal-known, cadence-is}
 use Rattle.entry.specs.declared.Entry.{Entry}
 use Rattle.entry.specs.Entry.{wordAt, entryOf, measuredIn, pushIn, entryAt, earlierThan, cadenceAt}
 use Rattle.entry.specs.Inner.{codeAt}
@@ -60,26 +58,9 @@ module _ (bytes : List ℕ) where
       refusal-known [] (pushIn (entryAt bytes k)) (earlierThan bytes k)
       ∙ rw (all-taken k (omega arith), frames-before k, lt-ltb k 4000000000 h)
 
-  -- ---- the detector that entry k is pushed to
-  abbrev detectorAt : ℕ → Detector
-  detectorAt k = after [] (earlierThan bytes k) .detector
-
-  record Reached (k : ℕ) : Type 0 where
-    lock : detectorAt k .lock ≡ lockOf (seens (earlierThan bytes k))
-    last : detectorAt k .last ≡ lastParity (earlierThan bytes k)
-
-  reached : (k : ℕ) → k ≤ 4000000000 → Reached k
-  unfolding earlierThan
-  reached zero h = record { lock = refl; last = refl }
-  reached (suc k) h =
-      let before = reached k (omega arith) in
-      let done = not-refused k (omega arith) in
-      let same : pushNo (lockOf (seens (earlierThan bytes k))) ≡ 0 = rw (← before .lock) done in
-      record { lock = rw (done, same, before .lock, before .last); last = rw done }
-
   -- ---- what is seen of entry k, by the numbers that are read from it
   module _ (k : ℕ) {last : Chosen} {e : Entry} {first : Parity} {m : Measured} (last-is : last ≡ lastParity (earlierThan bytes k)) (e-is : e ≡ entryAt bytes k) (first-is : first ≡ parityNamed (e .parity)) (m-is : m ≡ measuredIn e) where
-    pub code-given : {s : Seen} {code : ℕ} → s ≡ seenMeasured last first m → code ≡ codeOf s → code ≡ codeAt bytes k
+    pub code-given : {s : Seen} {code : ℕ} → s ≡ seenMeasured last first m → code ≡ seenCode s → code ≡ codeAt bytes k
     unfolding codeAt
     code-given s-is code-is = rw (code-is, s-is, first-is, m-is, last-is, e-is)
 
@@ -105,8 +86,8 @@ module _ (bytes : List ℕ) where
     cadence-there : (k : ℕ) → k < n → cadenceOfCode all k ≡ cadenceAt bytes k
     unfolding cadenceOfCode cadenceAt
     cadence-there k h =
-        let there = reached k (omega arith) in
-        rw (seen-before k (omega arith), code-there k h, there .lock, there .last)
+        let here = rw (all-taken k (omega arith)) at (cadence-is [] (pushIn (entryAt bytes k)) (earlierThan bytes k)) in
+        rw (seen-before k (omega arith), code-there k h) (ap cadenceNumber (sym here))
 
     pub cadences-there : codes.cadencesOf all ≡ listed n (cadenceAt bytes)
     cadences-there = rw (length-listed n (codeAt bytes)) (same-listed n (cadenceOfCode all) (cadenceAt bytes) cadence-there)

@@ -1,14 +1,13 @@
 // Measured entries as a reel file lays them out (docs/RULES.md, "Reel file and listing"), and their
 // cadences from a fresh detector. The desk and the reel's reader stand on the same entry.
 ghost use mathlib.Core.Path.{_≡_};
-ghost use mathlib.Core.List.{[], _∷_};
 ghost use Prim.Native.Nat.{_+_, _*_, _<_, _≤_};
 ghost use lib.ListN.{length, getD};
-ghost use Rattle.laws.specs.Refusal.{lowest, written};
+ghost use Rattle.laws.specs.Refusal.{written};
 ghost use Rattle.laws.specs.Rows.{listed, over};
 ghost use Rattle.field.specs.Field.{parityNamed};
 ghost use Rattle.entry.specs.Entry.{wordAt, entryOf, goodEntry, measuredIn, entryAt, cadenceAt, everyBelow, cadencesNo, cadencesOf};
-ghost use Rattle.entry.specs.Inner.{codeAt, Ready};
+ghost use Rattle.entry.specs.Inner.{codeAt, EntriesReady};
 
 // The numbers of an entry as they stand in the file.
 pub struct Entry {
@@ -67,7 +66,7 @@ impl Entry {
     pub fn first(self) -> field::Parity
         ensures { λ r. ⌜ r ≡ parityNamed (self .parity) ⌝ }
     {
-        let number = self.parity as u32;
+        let number = self.parity as u64;
         field::Parity::named(number)
     }
 
@@ -110,29 +109,19 @@ fn all_good(entries: &[u8], n: usize) -> bool
     good
 }
 
-// The number of the first test that fails, and 0 where none does.
-fn lowest_of(outside: bool, short_input: bool, short_output: bool, too_many_frames: bool) -> u8
-    ensures { λ r. ⌜ r ≡ lowest ((3, outside) ∷ (6, «short_input») ∷ (7, «short_output») ∷ (9, «too_many_frames») ∷ []) ⌝ }
+fn cadences_no(entries: &[u8], room: usize) -> u8
+    ensures { λ r. ⌜ r ≡ cadencesNo (now (entries .entry)) room ⌝ }
 {
-    if !outside {
-        return refusal::OUTSIDE;
-    }
-    if !short_input {
-        return refusal::SHORT_INPUT;
-    }
-    if !short_output {
-        return refusal::SHORT_OUTPUT;
-    }
-    if too_many_frames {
-        refusal::DONE
-    } else {
-        refusal::TOO_MANY_FRAMES
-    }
+    let n = entries.len() / 12;
+    let few = refusal::test(refusal::TOO_MANY_FRAMES, n <= 4000000000, refusal::DONE);
+    let output = refusal::test(refusal::SHORT_OUTPUT, n <= room, few);
+    let input = refusal::test(refusal::SHORT_INPUT, entries.len() % 12 == 0, output);
+    refusal::test(refusal::OUTSIDE, all_good(entries, n), input)
 }
 
 // What is seen of each of n entries that were judged, as a code.
 fn write_codes(out: &mut [u8], entries: &[u8], n: usize)
-    requires { ⌜ Ready n (length (now entries)) (length (now out)) ⌝ }
+    requires { ⌜ EntriesReady n (length (now entries)) (length (now out)) ⌝ }
     ensures { λ _. ⌜ now (out .exit) ≡ over (listed n (codeAt (now (entries .entry)))) (now (out .entry)) ⌝ }
 {
     let mut last = field::Chosen::Neither;
@@ -141,7 +130,7 @@ fn write_codes(out: &mut [u8], entries: &[u8], n: usize)
         let entry = entry_at(entries, k);
         let first = entry.first();
         let seen = telecine::seen_measured(last, first, entry.measured());
-        out[k] = pulldown::code_of(seen);
+        out[k] = pulldown::seen_code(seen);
         last = field::Chosen::Field(first);
         k += 1;
     }
@@ -149,7 +138,7 @@ fn write_codes(out: &mut [u8], entries: &[u8], n: usize)
 
 // The cadences of n entries that were judged. What lies behind them in the output stays.
 fn write_cadences(out: &mut [u8], entries: &[u8], n: usize)
-    requires { ⌜ Ready n (length (now entries)) (length (now out)) ⌝ }
+    requires { ⌜ EntriesReady n (length (now entries)) (length (now out)) ⌝ }
     ensures { λ _. ⌜ now (out .exit) ≡ over (listed n (cadenceAt (now (entries .entry)))) (now (out .entry)) ⌝ }
 {
     write_codes(out, entries, n);
@@ -162,15 +151,9 @@ pub fn cadences(out: &mut [u8], entries: &[u8]) -> u8
     ensures { λ r. ⌜ r ≡ cadencesNo (now (entries .entry)) (length (now (out .entry))) ⌝ }
     ensures { λ r. ⌜ now (out .exit) ≡ written r (over (cadencesOf (now (entries .entry))) (now (out .entry))) (now (out .entry)) ⌝ }
 {
-    let n = entries.len() / 12;
-    let no = lowest_of(
-        all_good(entries, n),
-        entries.len() % 12 == 0,
-        n <= out.len(),
-        n <= 4000000000,
-    );
+    let no = cadences_no(entries, out.len());
     if no == 0 {
-        write_cadences(out, entries, n);
+        write_cadences(out, entries, entries.len() / 12);
     }
     no
 }

@@ -35,7 +35,7 @@ impl Parity {
     }
 
     // The field that a number names. Callers refuse a number above 1.
-    pub fn named(first_row: u32) -> Parity
+    pub fn named(first_row: u64) -> Parity
         ensures { λ r. ⌜ r ≡ parityNamed «first_row» ⌝ }
     {
         if first_row == 0 {

@@ -1,8 +1,8 @@
--- Which row a line is made from: the definition of a sample, by whether cur's own row is kept.
+-- Which row a tile is made from: the definition of a sample, by whether cur's own row is kept.
 use mathlib.Core.Path.{_≡_, sym, _∙_, ap}
 use mathlib.Core.Bool.{Bool, true, false}
 use mathlib.Core.List.{List}
-use Prim.Native.Nat.{ℕ, _%_}
+use Prim.Native.Nat.{ℕ, _+_, _%_}
 use borrow.Author.Tests.{not-true, not-false}
 use lib.Dec.{eqb}
 use lib.IntN.{ℤ, pos}
@@ -14,7 +14,6 @@ use Rattle.filter.specs.declared.Quality.{Quality}
 use Rattle.filter.specs.declared.Quality.the-variants.{Weave, Bob, Yadif, Bwdif}
 use Rattle.filter.specs.declared.Rows.{Rows}
 use Rattle.filter.specs.Filter.{Sampler, bobOf, yadifOf, bwdifOf, madeOf, sampleOf}
-use Rattle.fill.specs.Fill.{lineOf}
 use Rattle.fill.specs.Lines.{keptOf}
 
 -- what stands in a row that is not kept
@@ -42,13 +41,18 @@ module _ (rows : Rows) (before cur after : Sampler) where
   missing-same Yadif x y h = simp h
   missing-same Bwdif x y h = simp h
 
-  -- the same of a whole line
-  module _ (quality : Quality) (width y : ℕ) {line : List Float} where
-    pub line-kept : kept quality (y % 2) ≡ true → line ≡ listed width (λ x. cur (pos x) (pos y)) → line ≡ lineOf quality rows before cur after width y
-    line-kept h e = e ∙ same-listed width _ _ (λ x l. kept-same quality (pos x) (pos y) h)
+  -- the same of a whole tile
+  module _ (quality : Quality) (from count y : ℕ) where
+    abbrev sampled : List Float
+    sampled = listed count (λ x. sampleOf quality rows before cur after (pos (from + x)) (pos y))
 
-    pub line-missing :
-        (known : Quality) → quality ≡ known → kept quality (y % 2) ≡ false → line ≡ listed width (λ x. missingOf known before cur after (pos x) (pos y)) →
-        line ≡ lineOf quality rows before cur after width y
-    line-missing known q h e =
-        e ∙ same-listed width _ _ (λ x l. ap (λ (r : Quality). missingOf r before cur after (pos x) (pos y)) (sym q) ∙ missing-same quality (pos x) (pos y) h)
+    pub tile-kept : {tile : List Float} → kept quality (y % 2) ≡ true → tile ≡ listed count (λ x. cur (pos (from + x)) (pos y)) → tile ≡ sampled
+    tile-kept h e = e ∙ same-listed count _ _ (λ x l. kept-same quality (pos (from + x)) (pos y) h)
+
+    pub tile-missing :
+        {tile : List Float} (known : Quality) → quality ≡ known → kept quality (y % 2) ≡ false →
+        tile ≡ listed count (λ x. missingOf known before cur after (pos (from + x)) (pos y)) → tile ≡ sampled
+    tile-missing known q h e =
+        e
+        ∙ same-listed count _ _
+        (λ x l. ap (λ (r : Quality). missingOf r before cur after (pos (from + x)) (pos y)) (sym q) ∙ missing-same quality (pos (from + x)) (pos y) h)

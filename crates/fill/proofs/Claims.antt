@@ -1,15 +1,13 @@
 -- The claims of specs/Claims.antt.
 use Rattle.laws.specs.Refusal.{rising}
 use Rattle.laws.proofs.Claims.{lowest-says}
-use Rattle.fill.specs.Fill.{planeTests}
-use Rattle.fill.specs.Band.{bandTests}
-use Rattle.fill.specs.Claims.{PlaneSays, BandSays}
+use Rattle.fill.specs.Fill.{planeTests, partTests}
+use Rattle.fill.specs.Claims.{PlaneSays, PartSays}
 
 pub plane-says : PlaneSays
 unfolding rising
-plane-says before before-bytes cur cur-bytes after after-bytes room = lowest-says (planeTests before before-bytes cur cur-bytes after after-bytes room) tt
+plane-says making before cur after room = lowest-says (planeTests making before cur after room) tt
 
-pub band-says : BandSays
+pub part-says : PartSays
 unfolding rising
-band-says rows before before-bytes cur cur-bytes after after-bytes from count room =
-    lowest-says (bandTests rows before before-bytes cur cur-bytes after after-bytes from count room) tt
+part-says making place before cur after room = lowest-says (partTests making place before cur after room) tt

@@ -1,149 +1,203 @@
--- A row of the source that is expanded column by column, then padded by six columns on each side.
-use mathlib.Core.Path.{_≡_, refl, sym, _∙_, ap}
-use mathlib.Core.List.{List}
+-- A row of a tile, as `expand` puts it together: the columns within the plane are read, and those past an edge repeat the last within.
+use mathlib.Core.Path.{_≡_, sym, _∙_, ap}
+use mathlib.Core.List.{List, _++_}
 use mathlib.Core.Logic.{⊎-elim}
 use Prim.Native.Nat.{ℕ, zero, suc, _+_, _-_, _≤_, _<_, min}
+use native.Mathlib.Nat.{le-refl, lt-trans, lt-of-le-of-lt}
 use native.Mathlib.Omega.{arith}
-use borrow.Author.Count.{below-none, below-more}
-use lib.IntN.{ℤ, pos, negsuc, subℕ, _-ℤ_}
-use lib.ListN.{length, getD, set, length-set}
-use lib.Seq.{getD-set-same, getD-set-other}
+use lib.IntN.{ℤ, pos, subℕ, _-ℤ_}
+use lib.ListN.{length, getD, take, drop, length-append, length-drop, List·getD-append}
+use lib.Seq.{length-take-le, getD-append-add, getD-take, getD-drop}
 use lib.Ieee.{Float, nan}
+use Rattle.laws.specs.Rows.{listed}
+use Rattle.laws.proofs.Lists.{length-listed, listed-at, part-length}
 use Rattle.plane.specs.declared.Shape.{Shape}
 use Rattle.plane.specs.Plane.{valueOf}
 use Rattle.plane.specs.Coordinates.{held}
 use Rattle.filter.specs.Filter.{Sampler}
-use Rattle.fill.specs.Lines.{Filled, Padded, TwoRooms, ThreeRooms, EightRooms, TenRooms}
-use Rattle.scanline.proofs.Columns.{below-or-from, subℕ-below, subℕ-from}
-use Rattle.scanline.specs.Rows.{RowOf, Around, Three, Motion}
+use Rattle.fill.specs.Rows.{RowOf, Around, Trio, Motion, Under}
+use Rattle.fill.specs.Lines.{Tiled}
+use Rattle.fill.proofs.Columns.{below-or-from, subℕ-below, subℕ-from}
 
--- ---- one column more
+-- ---- a list of which a part was lent, once `part` came back
 
-pub filled-none : {row : List Float} {f : ℕ → Float} → length row ≡ 8204 → Filled row 0 f
-filled-none {row} {f} h = record { size = h; at = below-none (λ x. getD row (x + 6) nan ≡ f x) }
+pub record Spliced (new old part : List Float) (at to : ℕ) : Type 0 where
+  pub size : length new ≡ length old
+  pub under : (i : ℕ) → i < at → getD new i nan ≡ getD old i nan
+  pub here : (i : ℕ) → i < to - at → getD new (at + i) nan ≡ getD part i nan
+  pub over : (i : ℕ) → to ≤ i → getD new i nan ≡ getD old i nan
 
-pub filled-more : {row : List Float} {n : ℕ} {f : ℕ → Float} {v : Float} → Filled row n f → n < 8192 → v ≡ f n → Filled (set row (n + 6) v) (n + 1) f
-filled-more {row} {n} {f} {v} h lt e =
-    let fits : n + 6 < length row = omega (arith, h .size) in
-    record {
-      size = simp length-set (h .size);
-      at = below-more (λ x. getD (set row (n + 6) v) (x + 6) nan ≡ f x) n
-          (λ x l. getD-set-other row (n + 6) (x + 6) v nan (λ q. omega arith) ∙ h .at x l) (getD-set-same row (n + 6) v nan fits ∙ e);
-    }
+module _ (old part : List Float) (at to : ℕ) (low : at ≤ to) (high : to ≤ length old) (long : length part ≡ to - at) where
+  abbrev rest : List Float
+  rest = drop (to - at) (drop at old)
 
-pub filled-as : {row : List Float} {n : ℕ} {f g : ℕ → Float} → Filled row n f → ((x : ℕ) → x < n → f x ≡ g x) → Filled row n g
-filled-as h e = record { size = h .size; at = λ x l. h .at x l ∙ e x l }
+  abbrev all : List Float
+  all = take at old ++ (part ++ rest)
 
--- ---- the columns past the edges, filled up to k on each side
+  front : length (take at old) ≡ at
+  front = length-take-le at old (omega arith)
 
-pub record PaddedTo (row inner : List Float) (width k : ℕ) : Type 0 where
-  pub size : length row ≡ 8204
-  pub mid : (i : ℕ) → 6 ≤ i → i < width + 6 → getD row i nan ≡ getD inner i nan
-  pub left : (i : ℕ) → i < k → getD row i nan ≡ getD inner 6 nan
-  pub right : (i : ℕ) → i < k → getD row (width + 6 + i) nan ≡ getD inner (width + 5) nan
+  past : (i : ℕ) → getD all (at + i) nan ≡ getD (part ++ rest) i nan
+  past i = ap (λ (n : ℕ). getD all (n + i) nan) (sym front) ∙ getD-append-add (take at old) (part ++ rest) i nan
 
-pub padded-none : (inner : List Float) (width : ℕ) → length inner ≡ 8204 → PaddedTo inner inner width 0
-padded-none inner width h = record {
-  size = h;
-  mid = λ i low high. refl;
-  left = below-none (λ i. getD inner i nan ≡ getD inner 6 nan);
-  right = below-none (λ i. getD inner (width + 6 + i) nan ≡ getD inner (width + 5) nan);
-}
+  beyond : (i : ℕ) → to ≤ i → getD all i nan ≡ getD old i nan
+  beyond i l =
+      let n = i - to in
+      let m = to - at + n in
+      let e : at + m ≡ i = omega arith in
+      let q : getD (part ++ rest) m nan ≡ getD rest n nan =
+      ap (λ (k : ℕ). getD (part ++ rest) (k + n) nan) (sym long) ∙ getD-append-add part rest n nan in
+      ap (λ (k : ℕ). getD all k nan) (sym e)
+      ∙ (past m ∙ (q ∙ (getD-drop (to - at) (drop at old) n nan ∙ (getD-drop at old m nan ∙ ap (λ (k : ℕ). getD old k nan) e))))
 
-below : {i j : ℕ} → i < j → i ≡ j → ⊥
-below l e = omega arith
-
-above : {i j : ℕ} → j < i → i ≡ j → ⊥
-above l e = omega arith
-
-module _ (row inner : List Float) (width k : ℕ) (h : PaddedTo row inner width k) (small : k < 6) (wide : width ≤ 8192) where
-  abbrev first : Float
-  first = getD inner 6 nan
-
-  abbrev last : Float
-  last = getD inner (width + 5) nan
-
-  abbrev both : List Float
-  both = set (set row k first) (width + 6 + k) last
-
-  other : (j : ℕ) → (j ≡ k → ⊥) → (j ≡ width + 6 + k → ⊥) → getD both j nan ≡ getD row j nan
-  other j a b = getD-set-other (set row k first) (width + 6 + k) j last nan b ∙ getD-set-other row k j first nan a
-
-  at-left : getD both k nan ≡ first
-  at-left = getD-set-other (set row k first) (width + 6 + k) k last nan (below (omega arith)) ∙ getD-set-same row k first nan (omega (arith, h .size))
-
-  fits : width + 6 + k < length (set row k first)
-  fits = simp length-set (omega (arith, h .size))
-
-  at-right : getD both (width + 6 + k) nan ≡ last
-  at-right = getD-set-same (set row k first) (width + 6 + k) last nan fits
-
-  pub padded-more : PaddedTo (set (set row k (getD inner 6 nan)) (width + 6 + k) (getD inner (width + 5) nan)) inner width (k + 1)
-  padded-more = record {
-    size = simp length-set (h .size);
-    mid = λ i low high. other i (above (omega arith)) (below (omega arith)) ∙ h .mid i low high;
-    left = below-more (λ i. getD both i nan ≡ first) k (λ i l. other i (below l) (below (omega arith)) ∙ h .left i l) at-left;
-    right =
-        below-more (λ i. getD both (width + 6 + i) nan ≡ last) k
-        (λ i l. other (width + 6 + i) (above (omega arith)) (below (omega arith)) ∙ h .right i l) at-right;
+  pub spliced : Spliced all old part at to
+  spliced = record {
+    size = simp (length-append, front, long, length-drop) (omega arith);
+    under = λ i l. List·getD-append (take at old) (part ++ rest) nan i (rw front l) ∙ getD-take at old i nan l;
+    here = λ i l. past i ∙ List·getD-append part rest nan i (rw long l);
+    over = beyond;
   }
 
--- ---- all six: each column holds the sample at its coordinate held in the plane
+-- of a part that was listed whole
+pub lent-listed :
+    (old : List Float) (at to : ℕ) {part : List Float} (f : ℕ → Float) → at ≤ to → to ≤ length old → part ≡ listed (length (take (to - at) (drop at old))) f →
+    Spliced (take at old ++ (part ++ drop (to - at) (drop at old))) old part at to × (part ≡ listed (to - at) f)
+lent-listed old at to {part} f low high e =
+    let same : part ≡ listed (to - at) f = e ∙ ap (λ (n : ℕ). listed n f) (part-length old at (to - at) (omega arith)) in
+    (spliced old part at to low high (ap length same ∙ length-listed (to - at) f), same)
 
-held-left : (width i : ℕ) → i < 6 → held width (subℕ i 6) ≡ 0
-held-left width i l = rw (subℕ-below i 6 l)
-
-held-from : (width i : ℕ) → 6 ≤ i → held width (subℕ i 6) ≡ min (i - 6) (width - 1)
-held-from width i l = rw (subℕ-from i 6 l)
-
-module _ (row inner : List Float) (width : ℕ) (h : PaddedTo row inner width 6) (low : 1 ≤ width) where
-  on-left : (i : ℕ) → i < 6 → getD row i nan ≡ getD inner (held width (subℕ i 6) + 6) nan
-  on-left i l = rw (held-left width i l) (h .left i l)
-
-  in-mid : (i : ℕ) → 6 ≤ i → i < width + 6 → getD row i nan ≡ getD inner (held width (subℕ i 6) + 6) nan
-  in-mid i from to =
-      let e : min (i - 6) (width - 1) + 6 ≡ i = omega arith in
-      rw (held-from width i from, e) (h .mid i from to)
-
-  on-right : (i : ℕ) → width + 6 ≤ i → i < width + 12 → getD row i nan ≡ getD inner (held width (subℕ i 6) + 6) nan
-  on-right i from to =
-      let e : min (i - 6) (width - 1) + 6 ≡ width + 5 = omega arith in
-      let j : width + 6 + (i - (width + 6)) ≡ i = omega arith in
-      let k : 6 ≤ i = omega arith in
-      rw (held-from width i k, e) (rw j at (h .right (i - (width + 6)) (omega arith)))
-
-  pub padded-all : Padded row inner width
-  padded-all = record {
-    size = h .size;
-    at = λ i l. ⊎-elim (on-left i) (λ from. ⊎-elim (in-mid i from) (λ far. on-right i far l) (below-or-from i (width + 6))) (below-or-from i 6);
-  }
+-- what a part holds that was listed
+pub listed-here :
+    {new old part : List Float} {at to : ℕ} (f : ℕ → Float) → Spliced new old part at to → part ≡ listed (to - at) f →
+    (i : ℕ) → at ≤ i → i < to → getD new i nan ≡ f (i - at)
+listed-here {new} {old} {part} {at} {to} f s e i a b =
+    let k : at + (i - at) ≡ i = omega arith in
+    let l : i - at < to - at = omega arith in
+    ap (λ (n : ℕ). getD new n nan) (sym k) ∙ (s .here (i - at) l ∙ (ap (λ (p : List Float). getD p (i - at) nan) e ∙ listed-at (to - at) f (i - at) nan l))
 
 -- ---- a row of a plane
 
-held-small : (width : ℕ) (x : ℤ) → 1 ≤ width → held width x < width
-held-small width (pos n) l = omega arith
-held-small width (negsuc n) l = omega arith
+held-held : (size : ℕ) (y : ℤ) (r : ℕ) → r < size → held size y ≡ r → held size (pos r) ≡ held size y
+held-held size y r l e = omega arith
 
--- a coordinate that is held once is held
-held-held : (size : ℕ) (x : ℤ) → 1 ≤ size → held size (pos (held size x)) ≡ held size x
-held-held size (pos n) l = omega arith
-held-held size (negsuc n) l = omega arith
+-- a sample by its coordinates as they are held
+sample-as : (bytes : List ℕ) (s : Shape) (x x′ y y′ : ℤ) → held (s .width) x ≡ held (s .width) x′ → held (s .height) y ≡ held (s .height) y′ → valueOf bytes s x y ≡ valueOf bytes s x′ y′
+unfolding valueOf
+sample-as bytes s x x′ y y′ e d = simp (e, d)
 
-module _ (bytes : List ℕ) (s : Shape) (y : ℤ) (r : ℕ) (low : 1 ≤ s .width) (short : 1 ≤ s .height) (e : held (s .height) y ≡ r) where
-  same-sample : (x : ℤ) → valueOf bytes s (pos (held (s .width) x)) (pos r) ≡ valueOf bytes s x y
-  unfolding valueOf
-  same-sample x =
-      let h = held-held (s .width) x low in
-      let k : held (s .height) (pos r) ≡ held (s .height) y = ap (λ (n : ℕ). held (s .height) (pos n)) (sym e) ∙ held-held (s .height) y short in
-      simp (h, k)
+-- the places in their order
+pub in-order :
+    (width from count start : ℕ) {first last : ℕ} → 1 ≤ count → from + count ≤ width → first ≡ start + (6 - from) →
+    last ≡ start + (count + 12) - (from + count + 6 - width) → (start ≤ first) × (first < last) × (last ≤ start + (count + 12))
+in-order width from count start some within at-first at-last = (omega arith, omega arith, omega arith)
 
-  pub row-of : {row inner : List Float} → Filled inner (s .width) (λ x. valueOf bytes s (pos x) (pos r)) → Padded row inner (s .width) → RowOf row (valueOf bytes s) (s .width) y
-  row-of f p = record {
-    size = p .size;
-    at = λ i l. p .at i l ∙ (f .at (held (s .width) (subℕ i 6)) (held-small (s .width) (subℕ i 6) low) ∙ same-sample (subℕ i 6));
+one-less : {first last : ℕ} → first < last → (first ≤ last - 1) × (last - 1 < last)
+one-less l = (omega arith, omega arith)
+
+-- the first place that is read, and the place past the last where that is the plane's last column
+first-is : (from start : ℕ) {first column : ℕ} → first ≡ start + (6 - from) → column ≡ from - 6 → first + from ≡ start + 6 + column
+first-is from start at-first at-column = omega arith
+
+last-is :
+    (width from count start : ℕ) {last : ℕ} → from + count ≤ width → last ≡ start + (count + 12) - (from + count + 6 - width) →
+    last < start + (count + 12) → last + from ≡ start + 6 + width
+last-is width from count start within at-last l = omega arith
+
+left-held : (from i width first : ℕ) {column : ℕ} → from + i < 6 → column ≡ from - 6 → min (column + (first - first)) (width - 1) ≡ 0
+left-held from i width first l at-column = omega arith
+
+right-held :
+    (width from start i first last column : ℕ) → first < last → last ≤ start + i → first + from ≡ start + 6 + column → last + from ≡ start + 6 + width →
+    (6 ≤ from + i) × (min (column + (last - 1 - first)) (width - 1) ≡ min (from + i - 6) (width - 1))
+right-held width from start i first last column some l at-first at-last =
+    let a : column + (last - 1 - first) ≡ width - 1 = omega arith in
+    let b : width ≤ from + i - 6 = omega arith in
+    (omega arith, rw a (same (width - 1) (from + i - 6) (least width (from + i - 6) b)))
+  where
+    least : (m n : ℕ) → m ≤ n → m - 1 ≤ n
+    least m n l = omega arith
+
+    same : (m n : ℕ) → m ≤ n → min m m ≡ min n m
+    same m n l = omega arith
+
+module _ (bytes : List ℕ) (s : Shape) (row from count start first last column : ℕ) (tiled : Tiled s row from count)
+    (at-first : first ≡ start + (6 - from)) (at-last : last ≡ start + (count + 12) - (from + count + 6 - s .width)) (at-column : column ≡ from - 6)
+    {old mid wide new inner left right : List Float}
+    (a : Spliced mid old inner first last) (b : Spliced wide mid left start first) (c : Spliced new wide right last (start + (count + 12)))
+    (inner-is : inner ≡ listed (last - first) (λ x. valueOf bytes s (pos (column + x)) (pos row)))
+    (left-is : left ≡ listed (first - start) (λ x. getD mid first nan))
+    (right-is : right ≡ listed (start + (count + 12) - last) (λ x. getD mid (last - 1) nan)) where
+  order : (start ≤ first) × (first < last) × (last ≤ start + (count + 12))
+  order = in-order (s .width) from count start (tiled .some) (tiled .within) at-first at-last
+
+  under : Under new old start
+  under = record {
+    size = c .size ∙ (b .size ∙ a .size);
+    at = λ i l. c .under i (omega (arith, order)) ∙ (b .under i l ∙ a .under i (omega (arith, order)));
   }
 
--- ---- the rows above and below, as `up` and `down` count them
+  module _ (y : ℤ) (e : held (s .height) y ≡ row) where
+    -- a place that was read, and the coordinate that it stands for
+    read : (k : ℕ) (x : ℤ) → first ≤ k → k < last → held (s .width) (pos (column + (k - first))) ≡ held (s .width) x → getD mid k nan ≡ valueOf bytes s x y
+    read k x l m h =
+        listed-here _ a inner-is k l m ∙ sample-as bytes s (pos (column + (k - first))) x (pos row) y h (held-held (s .height) y row (tiled .row) e)
+
+    on-left : (i : ℕ) → start + i < first → getD new (start + i) nan ≡ valueOf bytes s (subℕ (from + i) 6) y
+    on-left i l =
+        let under : from + i < 6 = omega arith in
+        c .under (start + i) (lt-trans l (order .1))
+        ∙ (listed-here _ b left-is (start + i) (omega arith) l
+        ∙ read first (subℕ (from + i) 6) (le-refl first) (order .1) (rw (subℕ-below (from + i) 6 under) (left-held from i (s .width) first under at-column)))
+
+    in-mid : (i : ℕ) → first ≤ start + i → start + i < last → getD new (start + i) nan ≡ valueOf bytes s (subℕ (from + i) 6) y
+    in-mid i l m =
+        let same : column + (start + i - first) ≡ from + i - 6 = omega arith in
+        c .under (start + i) m
+        ∙ (b .over (start + i) l
+        ∙ read (start + i) (subℕ (from + i) 6) l m (rw (subℕ-from (from + i) 6 (omega arith), same)))
+
+    on-right : (i : ℕ) → last ≤ start + i → i < count + 12 → getD new (start + i) nan ≡ valueOf bytes s (subℕ (from + i) 6) y
+    on-right i l m =
+        let end : start + i < start + (count + 12) = omega arith in
+        let h =
+        right-held (s .width) from start i first last column (order .1) l (first-is from start at-first at-column)
+        (last-is (s .width) from count start (tiled .within) at-last (lt-of-le-of-lt l end)) in
+        listed-here _ c right-is (start + i) l end
+        ∙ read (last - 1) (subℕ (from + i) 6) (one-less (order .1) .0) (one-less (order .1) .1) (rw (subℕ-from (from + i) 6 (h .0)) (h .1))
+
+    expanded-row : RowOf new start from count y (valueOf bytes s)
+    expanded-row = record {
+      at = λ i l. ⊎-elim (on-left i) (λ low. ⊎-elim (in-mid i low) (λ high. on-right i high l) (below-or-from (start + i) last)) (below-or-from (start + i) first);
+    }
+
+  pub expanded : ((y : ℤ) → held (s .height) y ≡ row → RowOf new start from count y (valueOf bytes s)) × Under new old start
+  expanded = (expanded-row, under)
+
+-- ---- rows that were made stay where only later places are written
+
+pub under-more : {new mid old : List Float} {upto from : ℕ} → Under new mid upto → Under mid old from → from ≤ upto → Under new old from
+under-more a b l = record { size = a .size ∙ b .size; at = λ i m. a .at i (omega arith) ∙ b .at i m }
+
+module _ {new old : List Float} {upto from count : ℕ} (u : Under new old upto) (few : count ≤ 512) {v : Sampler} where
+  pub row-stays : {start : ℕ} {y : ℤ} → start + 524 ≤ upto → RowOf old start from count y v → RowOf new start from count y v
+  row-stays {start} l r = record { at = λ i m. u .at (start + i) (omega arith) ∙ r .at i m }
+
+  pub around-stays : {start : ℕ} {y off : ℤ} → start + 1048 ≤ upto → Around old start from count y off v → Around new start from count y off v
+  around-stays l r = record { up = row-stays (omega arith) (r .up); down = row-stays (omega arith) (r .down) }
+
+  pub trio-stays : {start : ℕ} {y : ℤ} → start + 1572 ≤ upto → Trio old start from count y v → Trio new start from count y v
+  trio-stays l r = record { near = around-stays (omega arith) (r .near); mid = row-stays (omega arith) (r .mid) }
+
+pub motion-stays :
+    {new old : List Float} {from count : ℕ} {y : ℤ} {before cur after : Sampler} → Under new old 4192 → count ≤ 512 →
+    Motion old from count y before cur after → Motion new from count y before cur after
+motion-stays u few m = record {
+  near = around-stays u few (omega arith) (m .near);
+  past = trio-stays u few (omega arith) (m .past);
+  coming = trio-stays u few (omega arith) (m .coming);
+}
+
+-- ---- the rows above and below, as `less` and `down` count them
 
 pub held-up : (size y k : ℕ) → y < size → held size (pos y -ℤ pos k) ≡ y - k
 held-up size y zero l = omega arith
@@ -163,33 +217,3 @@ held-up size y (suc k) l = ⊎-elim past within (below-or-from y (suc k))
 
 pub held-here : (size y : ℕ) → y < size → held size (pos y) ≡ y
 held-here size y l = omega arith
-
--- ---- expanded rows keep their room
-
-pub around-rooms : {above below : List Float} {v : Sampler} {width : ℕ} {y k : ℤ} → Around above below v width y k → TwoRooms above below
-around-rooms r = record { up = r .up .size; down = r .down .size }
-
-three-rooms : {above here below : List Float} {v : Sampler} {width : ℕ} {y : ℤ} → Three above here below v width y → ThreeRooms above here below
-three-rooms r = record { ends = record { up = r .up .size; down = r .down .size }; mid = r .mid .size }
-
-pub motion-rooms :
-    {above below earlier-up earlier earlier-down later-up later later-down : List Float} {before cur after : Sampler} {width : ℕ} {y : ℤ} →
-    Motion above below earlier-up earlier earlier-down later-up later later-down before cur after width y →
-    EightRooms above below earlier-up earlier earlier-down later-up later later-down
-motion-rooms m = record { near = around-rooms (m .near); past = three-rooms (m .past); coming = three-rooms (m .coming) }
-
-pub near-rooms :
-    {above below earlier-up earlier earlier-down later-up later later-down far-above far-below : List Float} (old-above old-below : List Float) →
-    TenRooms old-above old-below earlier-up earlier earlier-down later-up later later-down far-above far-below → TwoRooms above below →
-    TenRooms above below earlier-up earlier earlier-down later-up later later-down far-above far-below
-near-rooms old-above old-below room near = record { eight = record { near = near; past = room .eight .past; coming = room .eight .coming }; far = room .far }
-
--- a row that was just made has it ten times
-pub fresh-rooms : {row : List Float} → length row ≡ 8204 → TenRooms row row row row row row row row row row
-fresh-rooms {row} h = record { eight = record { near = two; past = three; coming = three }; far = two }
-  where
-    two : TwoRooms row row
-    two = record { up = h; down = h }
-
-    three : ThreeRooms row row row
-    three = record { ends = two; mid = h }

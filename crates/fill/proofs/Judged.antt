@@ -1,46 +1,38 @@
--- What a call of `band` that gets 0 has shown: its rows are the plane's, its planes are within the bounds, agree and are lent whole, and the
--- output has room. And how such a call ends.
-use mathlib.Core.Path.{_≡_, sym, subst, _∙_}
-use mathlib.Core.Bool.{true, _&&_}
+-- What a call of `part` that gets 0 has shown: its part is the plane's, its planes are within the bounds, agree and are lent whole, and the output
+-- has room. And a whole plane as the part that is everything.
+use mathlib.Core.Path.{_≡_, refl}
+use mathlib.Core.Bool.{Bool, true, false, cond, _&&_}
+use mathlib.Core.List.{[], _∷_}
 use Prim.Native.Nat.{ℕ, _+_, _*_, _≤_}
 use native.Mathlib.Nat.{zero-add}
 use native.Mathlib.Omega.{arith}
-use borrow.Author.Tests.{leb-true, eqb-true, ne-eqb, le-leb}
-use lib.Dec.{leb, eqb, lit<}
-use Rattle.laws.specs.Refusal.{lowest, written}
-use Rattle.laws.proofs.Refusal.{first-passes, rest-passes}
-use Rattle.field.specs.declared.Parity.{Parity}
+use borrow.Author.Tests.{leb-true, eqb-true, le-leb}
+use lib.Dec.{leb, eqb}
+use Rattle.laws.specs.Refusal.{lowest, rising}
+use Rattle.laws.proofs.Refusal.{AllPass, all-pass}
 use Rattle.plane.specs.declared.Shape.{Shape}
 use Rattle.plane.specs.Plane.{goodShape, planeBytes, agree}
+use Rattle.plane.proofs.Bounds.{good-within}
 use Rattle.plane.proofs.Coordinates.{both-inside}
-use Rattle.filter.specs.declared.Quality.{Quality}
-use Rattle.filter.specs.declared.Rows.{Rows}
+use Rattle.filter.specs.declared.Making.{Making}
 use Rattle.filter.specs.Filter.{Sampler}
 use Rattle.filter.specs.Rows.{goodRows}
-use Rattle.filter.proofs.Claims.{field-rows-good}
-use Rattle.fill.specs.Fill.{linesOf, planeNo, fieldRows}
-use Rattle.fill.specs.Band.{bandOf, bandNo}
-use Rattle.fill.specs.Lines.{Lent, Ready}
+use Rattle.fill.specs.declared.Place.{Place}
+use Rattle.fill.specs.Fill.{linesOf, partOf, partTests, partNo, planeNo}
+use Rattle.fill.specs.Lines.{Lent, AllLent}
 
--- the bounds, one test after the other from the last on
+-- five tests, one behind the other
+pub number-is :
+    {first second third fourth fifth : ℕ} {a a′ b b′ c c′ d d′ e e′ : Bool} →
+    first ≡ cond a second 3 → second ≡ cond b third 4 → third ≡ cond c fourth 5 → fourth ≡ cond d fifth 6 → fifth ≡ cond e 0 7 →
+    a ≡ a′ → b ≡ b′ → c ≡ c′ → d ≡ d′ → e ≡ e′ → first ≡ lowest ((3, a′) ∷ (4, b′) ∷ (5, c′) ∷ (6, d′) ∷ (7, e′) ∷ [])
+unfolding lowest
+number-is p q r s t u v w x y = cc
+
 lent : (s : Shape) (bytes : ℕ) → goodShape s ≡ true → leb (planeBytes s) bytes ≡ true → Lent s bytes
-unfolding goodShape
 lent s bytes g b =
-    let before-row = both-inside _ _ g .0 in
-    let before-stride = both-inside _ _ before-row .0 in
-    let to-depth = both-inside _ _ before-stride in
-    let from-depth = both-inside _ _ (to-depth .0) in
-    let to-height = both-inside _ _ (from-depth .0) in
-    let from-height = both-inside _ _ (to-height .0) in
-    let widths = both-inside _ _ (from-height .0) in
-    record {
-      width-low = leb-true 1 (s .width) (widths .0);
-      width-high = leb-true (s .width) 8192 (widths .1);
-      height-low = leb-true 1 (s .height) (from-height .1);
-      height-high = leb-true (s .height) 4352 (to-height .1);
-      depth-high = leb-true (s .depth) 16 (to-depth .1);
-      whole = leb-true (planeBytes s) bytes b;
-    }
+    let w = good-within s g in
+    record { width-most = w .width-most; height-most = w .height-most; whole = leb-true (planeBytes s) bytes b }
 
 alike : (a b : Shape) → agree a b ≡ true → (a .width ≡ b .width) × (a .height ≡ b .height)
 alike a b h =
@@ -48,55 +40,63 @@ alike a b h =
     let sizes = both-inside (eqb (a .width) (b .width)) (eqb (a .height) (b .height)) (to-depth .0) in
     (eqb-true (a .width) (b .width) (sizes .0), eqb-true (a .height) (b .height) (sizes .1))
 
-module _ (rows : Rows) (before : Shape) (before-bytes : ℕ) (cur : Shape) (cur-bytes : ℕ) (after : Shape) (after-bytes from count room : ℕ)
-    (done : bandNo rows before before-bytes cur cur-bytes after after-bytes from count room ≡ 0) where
-  pub judged : Ready before before-bytes cur cur-bytes after after-bytes × ((from + count ≤ cur .height) × (count * cur .width ≤ room))
-  judged =
-      let inside = both-inside (goodRows rows) (leb (from + count) (cur .height)) (first-passes 3 _ _ (lit< tt) done) in
-      let past-rows = rest-passes 3 _ _ (lit< tt) done in
-      let past-shapes = rest-passes 4 _ _ (lit< tt) past-rows in
-      let past-sizes = rest-passes 5 _ _ (lit< tt) past-shapes in
-      let past-bytes = rest-passes 6 _ _ (lit< tt) past-sizes in
-      let shapes = both-inside (goodShape before && goodShape cur) (goodShape after) (first-passes 4 _ _ (lit< tt) past-rows) in
-      let two-shapes = both-inside (goodShape before) (goodShape cur) (shapes .0) in
-      let sizes = both-inside (agree before cur) (agree after cur) (first-passes 5 _ _ (lit< tt) past-shapes) in
-      let past = alike before cur (sizes .0) in
-      let coming = alike after cur (sizes .1) in
-      let bytes = both-inside _ _ (first-passes 6 _ _ (lit< tt) past-sizes) in
-      let two-bytes = both-inside _ _ (bytes .0) in (
+module _ (making : Making) (place : Place) (before cur after room : ℕ) where
+  passed : partNo making place before cur after room ≡ 0 → AllPass (partTests making place before cur after room)
+  unfolding rising
+  passed done = all-pass (partTests making place before cur after room) tt done
+
+  pub judged :
+      partNo making place before cur after room ≡ 0 →
+      AllLent making before cur after
+      × (((place .top + place .height ≤ making .cur .height) × (place .left + place .width ≤ making .cur .width)) × (place .height * place .width ≤ room))
+  judged done =
+      let all = passed done in
+      let high = leb (place .top + place .height) (making .cur .height) in
+      let wide = leb (place .left + place .width) (making .cur .width) in
+      let columns = both-inside (goodRows (making .rows) && high) wide (all .0) in
+      let rows = both-inside (goodRows (making .rows)) high (columns .0) in
+      let shapes = both-inside (goodShape (making .before) && goodShape (making .cur)) (goodShape (making .after)) (all .1 .0) in
+      let two-shapes = both-inside (goodShape (making .before)) (goodShape (making .cur)) (shapes .0) in
+      let sizes = both-inside (agree (making .cur) (making .before)) (agree (making .cur) (making .after)) (all .1 .1 .0) in
+      let past = alike (making .cur) (making .before) (sizes .0) in
+      let coming = alike (making .cur) (making .after) (sizes .1) in
+      let earlier = leb (planeBytes (making .before)) before in
+      let now = leb (planeBytes (making .cur)) cur in
+      let bytes = both-inside (earlier && now) (leb (planeBytes (making .after)) after) (all .1 .1 .1 .0) in
+      let two-bytes = both-inside earlier now (bytes .0) in (
         record {
-          before-lent = lent before before-bytes (two-shapes .0) (two-bytes .0);
-          cur-lent = lent cur cur-bytes (two-shapes .1) (two-bytes .1);
-          after-lent = lent after after-bytes (shapes .1) (bytes .1);
+          before-lent = lent (making .before) before (two-shapes .0) (two-bytes .0);
+          cur-lent = lent (making .cur) cur (two-shapes .1) (two-bytes .1);
+          after-lent = lent (making .after) after (shapes .1) (bytes .1);
           before-width = past .0;
           before-height = past .1;
           after-width = coming .0;
           after-height = coming .1;
         },
-        (leb-true (from + count) (cur .height) (inside .1), leb-true (count * cur .width) room (first-passes 7 _ _ (lit< tt) past-bytes)),
+        (
+          (leb-true (place .top + place .height) (making .cur .height) (rows .1), leb-true (place .left + place .width) (making .cur .width) (columns .1)),
+          leb-true (place .height * place .width) room (all .1 .1 .1 .1 .0),
+        ),
       )
 
--- ---- how the call ends: its number n is the definition's m
+-- ---- a whole plane is the part that is everything
 
--- at 0 what was made is written
-pub writes : {A : Type 0} {n m : ℕ} {got new : A} (old : A) → n ≡ m → n ≡ 0 → got ≡ new → (n ≡ m) × (got ≡ written m new old)
-writes {A} {n} {m} {got} {new} old e z p = (e, subst (λ (k : ℕ). got ≡ written k new old) (sym z ∙ e) p)
-
--- at another number what stood there stays
-pub leaves : {A : Type 0} {n m : ℕ} {old : A} (new : A) → n ≡ m → (n ≡ 0 → ⊥) → (n ≡ m) × (old ≡ written m new old)
-leaves {A} {n} {m} {old} new e z = (e, subst (λ (k : ℕ). old ≡ written k new old) e (simp (ne-eqb n 0 z)))
-
--- ---- a whole plane is the band of all its rows
+abbrev pub everything : Making → Place
+everything making = record { top = 0; height = making .cur .height; left = 0; width = making .cur .width }
 
 pub whole-number :
-    (first : Parity) (before : Shape) (before-bytes : ℕ) (cur : Shape) (cur-bytes : ℕ) (after : Shape) (after-bytes room : ℕ) →
-    bandNo (fieldRows first) before before-bytes cur cur-bytes after after-bytes 0 (cur .height) room
-    ≡ planeNo before before-bytes cur cur-bytes after after-bytes room
+    (making : Making) (before cur after room : ℕ) → partNo making (everything making) before cur after room ≡ planeNo making before cur after room
 unfolding lowest
-whole-number first before before-bytes cur cur-bytes after after-bytes room =
-    simp (field-rows-good first, le-leb (0 + cur .height) (cur .height) (omega arith))
+whole-number making before cur after room =
+    simp
+    (le-leb (0 + making .cur .height) (making .cur .height) (omega arith), le-leb (0 + making .cur .width) (making .cur .width) (omega arith), inside (goodRows (making .rows)))
+  where
+    inside : (b : Bool) → (b && true && true) ≡ b
+    inside true = refl
+    inside false = refl
 
 pub whole-lines :
-    (quality : Quality) (rows : Rows) (before cur after : Sampler) (width height : ℕ) →
-    bandOf quality rows before cur after width 0 height ≡ linesOf quality rows before cur after width height
-whole-lines quality rows before cur after width height = simp zero-add
+    (making : Making) (before cur after : Sampler) →
+    partOf (making .quality) (making .rows) (everything making) before cur after
+    ≡ linesOf (making .quality) (making .rows) before cur after (making .cur .width) (making .cur .height)
+whole-lines making before cur after = simp zero-add

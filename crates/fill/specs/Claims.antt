@@ -1,18 +1,13 @@
--- What the numbers of `plane` and `band` say. proofs/Claims.antt proves each claim under its name in small letters.
+-- What the numbers of `plane` and `part` say. proofs/Claims.antt proves each claim under its name in small letters.
 use Prim.Native.Nat.{ℕ}
 use Rattle.laws.specs.Refusal.{Says}
-use Rattle.plane.specs.declared.Shape.{Shape}
-use Rattle.filter.specs.declared.Rows.{Rows}
-use Rattle.fill.specs.Fill.{planeTests}
-use Rattle.fill.specs.Band.{bandTests}
+use Rattle.filter.specs.declared.Making.{Making}
+use Rattle.fill.specs.declared.Place.{Place}
+use Rattle.fill.specs.Fill.{planeTests, partTests}
 
 -- 0 exactly when no number of the table applies, and otherwise the lowest that does
 abbrev pub PlaneSays : Type 0
-PlaneSays =
-    (before : Shape) (before-bytes : ℕ) (cur : Shape) (cur-bytes : ℕ) (after : Shape) (after-bytes room : ℕ) →
-    Says (planeTests before before-bytes cur cur-bytes after after-bytes room)
+PlaneSays = (making : Making) (before cur after room : ℕ) → Says (planeTests making before cur after room)
 
-abbrev pub BandSays : Type 0
-BandSays =
-    (rows : Rows) (before : Shape) (before-bytes : ℕ) (cur : Shape) (cur-bytes : ℕ) (after : Shape) (after-bytes from count room : ℕ) →
-    Says (bandTests rows before before-bytes cur cur-bytes after after-bytes from count room)
+abbrev pub PartSays : Type 0
+PartSays = (making : Making) (place : Place) (before cur after room : ℕ) → Says (partTests making place before cur after room)

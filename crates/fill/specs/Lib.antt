@@ -1,5 +1,5 @@
 -- The definitions that the contracts of `fill` cite.
 pub mod Fill
-pub mod Band
+pub mod Rows
 pub mod Lines
 pub mod Claims

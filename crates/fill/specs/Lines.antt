@@ -1,74 +1,82 @@
--- What the inner functions of `fill` promise: planes that were tested, and a row of the source on its way to an expanded row
--- (crates/scanline).
+-- What the inner functions of `fill` promise: planes that were tested, and a tile of a line.
 use Prim.Native.Nat.{ℕ, _+_, _/_, _^_, _≤_, _<_}
 use mathlib.Core.Path.{_≡_}
-use mathlib.Core.Bool.{Bool, not}
+use mathlib.Core.Bool.{Bool, not, cond}
 use mathlib.Core.List.{List}
-use lib.IntN.{pos, subℕ}
-use lib.ListN.{length, getD}
-use lib.Ieee.{Float, nan, binary32, div, ofInt}
+use lib.IntN.{ℤ, pos}
+use lib.Ieee.{Float, binary32, div, lt, ofInt}
+use Rattle.laws.specs.Rows.{listed}
 use Rattle.plane.specs.declared.Shape.{Shape}
-use Rattle.plane.specs.Plane.{planeBytes, storedAt}
-use Rattle.plane.specs.Coordinates.{held}
+use Rattle.plane.specs.Plane.{planeBytes, storedAt, valueOf}
+use Rattle.filter.specs.declared.Making.{Making}
 use Rattle.filter.specs.declared.Quality.{Quality}
 use Rattle.filter.specs.declared.Quality.the-variants.{Weave, Bob, Yadif, Bwdif}
+use Rattle.filter.specs.Filter.{Sampler, Slant, one, slantedOf, betterOf, bestOf, sampleOf}
+use Rattle.filter.specs.Held.{step}
+use Rattle.filter.specs.Making.{ofPlanes}
+use Rattle.fill.specs.declared.Pick.{Pick}
+use Rattle.fill.specs.Rows.{Around, Motion, picked}
 
 -- ---- what was tested before a row is read
 
 -- a plane of which enough bytes are lent, with those of the bounds that a row's expansion needs
 pub record Lent (s : Shape) (bytes : ℕ) : Type 0 where
-  pub width-low : 1 ≤ s .width
-  pub width-high : s .width ≤ 8192
-  pub height-low : 1 ≤ s .height
-  pub height-high : s .height ≤ 4352
-  pub depth-high : s .depth ≤ 16
+  pub width-most : s .width ≤ 8192
+  pub height-most : s .height ≤ 4352
   pub whole : planeBytes s ≤ bytes
 
 -- three such planes of one width and height
-pub record Ready (before : Shape) (before-bytes : ℕ) (cur : Shape) (cur-bytes : ℕ) (after : Shape) (after-bytes : ℕ) : Type 0 where
-  pub before-lent : Lent before before-bytes
-  pub cur-lent : Lent cur cur-bytes
-  pub after-lent : Lent after after-bytes
-  pub before-width : before .width ≡ cur .width
-  pub before-height : before .height ≡ cur .height
-  pub after-width : after .width ≡ cur .width
-  pub after-height : after .height ≡ cur .height
+pub record AllLent (making : Making) (before cur after : ℕ) : Type 0 where
+  pub before-lent : Lent (making .before) before
+  pub cur-lent : Lent (making .cur) cur
+  pub after-lent : Lent (making .after) after
+  pub before-width : making .cur .width ≡ making .before .width
+  pub before-height : making .cur .height ≡ making .before .height
+  pub after-width : making .cur .width ≡ making .after .width
+  pub after-height : making .cur .height ≡ making .after .height
 
--- ---- expanded rows
-
--- lists with the room of expanded rows, by what they are lent for
-pub record TwoRooms (above below : List Float) : Type 0 where
-  pub up : length above ≡ 8204
-  pub down : length below ≡ 8204
-
-pub record ThreeRooms (above here below : List Float) : Type 0 where
-  pub ends : TwoRooms above below
-  pub mid : length here ≡ 8204
-
-pub record EightRooms (above below earlier-up earlier earlier-down later-up later later-down : List Float) : Type 0 where
-  pub near : TwoRooms above below
-  pub past : ThreeRooms earlier-up earlier earlier-down
-  pub coming : ThreeRooms later-up later later-down
-
-pub record TenRooms (above below earlier-up earlier earlier-down later-up later later-down far-above far-below : List Float) : Type 0 where
-  pub eight : EightRooms above below earlier-up earlier earlier-down later-up later later-down
-  pub far : TwoRooms far-above far-below
+-- a tile of row y: some columns, at most 512
+pub record Tiled (s : Shape) (y from count : ℕ) : Type 0 where
+  pub row : y < s .height
+  pub some : 1 ≤ count
+  pub few : count ≤ 512
+  pub within : from + count ≤ s .width
 
 -- the value of the sample stored at a place
 abbrev pub storedValue : List ℕ → ℕ → ℕ → Float → ℕ → Float
 storedValue bytes depth shift full at = div binary32 (ofInt binary32 (pos (storedAt bytes depth at / 2 ^ shift))) full
 
--- the first n columns are there
-pub record Filled (row : List Float) (n : ℕ) (f : ℕ → Float) : Type 0 where
-  pub size : length row ≡ 8204
-  pub at : (x : ℕ) → x < n → getD row (x + 6) nan ≡ f x
+-- ---- slants
 
--- `row` is `inner`, with the columns past the edges of its `width` samples filled
-pub record Padded (row inner : List Float) (width : ℕ) : Type 0 where
-  pub size : length row ≡ 8204
-  pub at : (i : ℕ) → i < width + 12 → getD row i nan ≡ getD inner (held width (subℕ i 6) + 6) nan
+-- a slant with the sums along it, replaced where a score is smaller
+unfoldable pub betterIn : Pick → Float → Float → Float → Pick
+betterIn best score near far = cond (lt score (best .score)) (record { score = score; near = near; far = far }) best
 
--- ---- a row of cur's own
+-- the slant held as t tried after `best`; the rows that stand at `far` are so many off
+abbrev pub Tries : List Float → ℕ → ℕ → ℕ → Pick → Pick → Type 0
+Tries rows far x t best r =
+    (v : Sampler) (from count : ℕ) (y off : ℤ) (s : Slant) →
+    Around rows 0 from count y one v → Around rows far from count y off v → x < count → best ≡ picked v (pos (from + x)) y off s →
+    r ≡ picked v (pos (from + x)) y off (betterOf s (step t) (slantedOf v (pos (from + x)) y (step t)))
+
+-- all tried
+abbrev pub Picks : List Float → ℕ → ℕ → Pick → Type 0
+Picks rows far x r =
+    (v : Sampler) (from count : ℕ) (y off : ℤ) →
+    Around rows 0 from count y one v → Around rows far from count y off v → x < count → r ≡ picked v (pos (from + x)) y off (bestOf v (pos (from + x)) y)
+
+-- ---- of lent planes
+
+abbrev pub Moving : List Float → Making → List ℕ → List ℕ → List ℕ → ℕ → ℕ → ℕ → Type 0
+Moving rows making before cur after from count y =
+    Motion rows from count (pos y) (valueOf before (making .before)) (valueOf cur (making .cur)) (valueOf after (making .after))
+
+-- `count` columns of row y, from the column `from` on
+abbrev pub tileOf : (Sampler → Sampler → Sampler → Sampler) → Making → List ℕ → List ℕ → List ℕ → ℕ → ℕ → ℕ → List Float
+tileOf made making before cur after from count y = listed count (λ x. ofPlanes made making before cur after (pos (from + x)) (pos y))
+
+abbrev pub sampleTile : Making → List ℕ → List ℕ → List ℕ → ℕ → ℕ → ℕ → List Float
+sampleTile making = tileOf (sampleOf (making .quality) (making .rows)) making
 
 -- whether a row is shown as cur has it: by whether its parity is that of `mate`, and that of `first`
 abbrev pub keptOf : Quality → Bool → Bool → Bool

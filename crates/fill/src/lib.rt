@@ -1,27 +1,36 @@
 // Copyright 2026 Till0196
 // SPDX-License-Identifier: Apache-2.0
-// Carried over from core/src/output/video/filter.rs (`plane`), and changed: a plane is a lent slice
-// beside its shape, the output is lent, what is out of bounds is refused by number, and a line is made
-// from whole rows of floats instead of sample by sample.
+// Carried over from core/src/output/video/filter.rs (`plane`, `linear`, `cubic`, `motion`, `edge`), and
+// changed: a plane is a lent slice beside its shape, the output is lent, what is out of bounds is refused
+// by number, and samples are made tile by tile, from rows of floats.
 //
-// A whole plane of samples, fast. Each source row that a line needs is first expanded to floats, with
-// six more columns on each side that hold what the plane's sampler gives there. The loops over a line
-// then read with neither a clamp nor a test, and are vectorised.
+// A plane of samples, or a part of one, fast. A line is made in tiles of 512 columns. Each source row that
+// a tile needs is first expanded to floats, with six more columns on each side that hold what the plane's
+// sampler gives there. The loops over a tile then read with neither a clamp nor a test, and are vectorised.
 ghost use mathlib.Core.Path.{_≡_};
 ghost use Prim.Native.Nat.{ℕ, _+_, _*_, _-_, _<_, _≤_, _^_, min};
 ghost use lib.ListN.{length};
-ghost use lib.IntN.{ℤ, pos};
+ghost use lib.IntN.{ℤ, pos, natAbs, subℕ, _+ℤ_};
+ghost use lib.Ieee.{binary32, ofInt};
 ghost use Rattle.laws.specs.Refusal.{written};
 ghost use Rattle.laws.specs.Rows.{listed, over};
 ghost use Rattle.plane.specs.Plane.{sampleBytes, storedAt, valueOf};
 ghost use Rattle.plane.specs.Coordinates.{held};
-ghost use Rattle.filter.specs.Filter.{bobOf, yadifOf, bwdifOf};
-ghost use Rattle.scanline.specs.Rows.{RowOf, Around, Three, Motion};
-ghost use Rattle.fill.specs.Fill.{lineOf, linesOf, planeNo, fieldRows};
-ghost use Rattle.fill.specs.Band.{bandOf, bandNo};
-ghost use Rattle.fill.specs.Lines.{Lent, Ready, TwoRooms, ThreeRooms, EightRooms, TenRooms, storedValue, Filled, Padded, keptOf};
+ghost use Rattle.filter.specs.Filter.{Sampler, one, three, bobOf, inMotionOf, scoreOf, nearOf, yadifOf, bwdifOf};
+ghost use Rattle.filter.specs.Held.{step};
+ghost use Rattle.fill.specs.Fill.{partNo, partMade, planeNo, planeMade};
+ghost use Rattle.fill.specs.Rows.{RowOf, Around, Trio, Motion, Under, alongOf};
+ghost use Rattle.fill.specs.Lines.{Lent, AllLent, Tiled, storedValue, betterIn, Tries, Picks, keptOf, Moving, tileOf, sampleTile};
 
-// ---- a row of the source, expanded
+// The samples of a part of a plane: `width` columns from `left` on, of `height` rows from `top` on.
+pub struct Place {
+    pub top: u16,
+    pub height: u16,
+    pub left: u16,
+    pub width: u16,
+}
+
+// ---- a row of the source
 
 fn wide(byte: u8) -> u16
     ensures { λ r. ⌜ (r ≡ byte) × (r < 256) ⌝ }
@@ -47,41 +56,26 @@ fn value(src: &[u8], depth: u8, shift: u8, full: f32, i: usize) -> f32
     ((stored(src, depth, i) >> shift) as f32) / full
 }
 
-// `width` samples, `step` bytes from one to the next. Each caller gives step and depth as constants, so
-// that what is inlined there is a plain loop over one kind of row.
+// Samples from the column `from` on, `step` bytes from one to the next. Each caller gives step and depth
+// as constants, so that what is inlined there is a plain loop over one kind of row.
 fn scan(
-    dst: &mut [f32; 8204],
+    dst: &mut [f32],
     src: &[u8],
     at: usize,
     step: usize,
-    width: usize,
+    from: usize,
     depth: u8,
     shift: u8,
     full: f32,
 )
-    requires { ⌜ (length (now dst) ≡ 8204) × (width ≤ 8192) × (step ≤ 4) × (shift ≤ 7) ⌝ }
-    requires { ⌜ ((x : ℕ) → x < width → at + step * x + sampleBytes depth ≤ length (now src)) ⌝ }
-    ensures { λ _. ⌜ Filled (now (dst .exit)) width (λ x. storedValue (now (src .entry)) depth shift full (at + step * x)) ⌝ }
+    requires { ⌜ (from + length (now dst) ≤ 8192) × (step ≤ 4) × (shift ≤ 7) ⌝ }
+    requires { ⌜ ((x : ℕ) → x < length (now dst) → at + step * (from + x) + sampleBytes depth ≤ length (now src)) ⌝ }
+    ensures { λ _. ⌜ now (dst .exit) ≡ listed (length (now (dst .entry))) (λ x. storedValue (now (src .entry)) depth shift full (at + step * (from + x))) ⌝ }
 {
     let mut x = 0;
-    while x < width {
-        dst[x + 6] = value(src, depth, shift, full, at + step * x);
+    while x < dst.len() {
+        dst[x] = value(src, depth, shift, full, at + step * (from + x));
         x += 1;
-    }
-}
-
-// The columns past both edges.
-fn pad(dst: &mut [f32; 8204], width: usize)
-    requires { ⌜ (length (now dst) ≡ 8204) × (1 ≤ width) × (width ≤ 8192) ⌝ }
-    ensures { λ _. ⌜ Padded (now (dst .exit)) (now (dst .entry)) width ⌝ }
-{
-    let first = dst[6];
-    let last = dst[width + 5];
-    let mut k = 0;
-    while k < 6 {
-        dst[k] = first;
-        dst[width + 6 + k] = last;
-        k += 1;
     }
 }
 
@@ -93,51 +87,50 @@ fn start(row: usize, stride: u32) -> usize
     row * (stride as usize)
 }
 
-// The samples of a row, by the number of bytes that one has and of components that share the plane.
-fn samples(dst: &mut [f32; 8204], src: &[u8], s: plane::Shape, row: usize)
+// The samples of a row from a column on, by the number of bytes that one has and of components that
+// share the plane.
+fn samples(dst: &mut [f32], src: &[u8], s: plane::Shape, row: usize, from: usize)
     requires { ⌜ Lent s (length (now src)) ⌝ }
-    requires { ⌜ (length (now dst) ≡ 8204) × (row < s .height) ⌝ }
-    ensures { λ _. ⌜ Filled (now (dst .exit)) (s .width) (λ x. valueOf (now (src .entry)) s (pos x) (pos row)) ⌝ }
+    requires { ⌜ (row < s .height) × (from + length (now dst) ≤ s .width) ⌝ }
+    ensures { λ _. ⌜ now (dst .exit) ≡ listed (length (now (dst .entry))) (λ x. valueOf (now (src .entry)) s (pos (from + x)) (pos row)) ⌝ }
 {
     let layout = s.layout;
-    let width = s.width as usize;
     let full = plane::full_value(s.depth);
     let at = start(row, s.stride);
     let component = plane::component_of(layout);
     let shared = plane::components_of(layout);
     if s.depth <= 8 {
         if shared <= 1 {
-            scan(dst, src, at + component, 1, width, 8, 0, full);
+            scan(dst, src, at + component, 1, from, 8, 0, full);
             return;
         }
-        scan(dst, src, at + component, 2, width, 8, 0, full);
+        scan(dst, src, at + component, 2, from, 8, 0, full);
         return;
     }
     let shift = plane::shift_of(layout, s.depth);
     if shared <= 1 {
-        scan(dst, src, at + 2 * component, 2, width, 16, shift, full);
+        scan(dst, src, at + 2 * component, 2, from, 16, shift, full);
         return;
     }
-    scan(dst, src, at + 2 * component, 4, width, 16, shift, full);
+    scan(dst, src, at + 2 * component, 4, from, 16, shift, full);
 }
 
-// A row with the columns past its edges. A sampler holds a coordinate that lies outside the plane, so
-// one row of the plane stands for several rows of the sampler.
-fn expand(dst: &mut [f32; 8204], src: &[u8], s: plane::Shape, row: usize)
-    requires { ⌜ Lent s (length (now src)) ⌝ }
-    requires { ⌜ (length (now dst) ≡ 8204) × (row < s .height) ⌝ }
-    ensures { λ _. ⌜ ((y : ℤ) → held (s .height) y ≡ row → RowOf (now (dst .exit)) (valueOf (now (src .entry)) s) (s .width) y) ⌝ }
+// ---- rows of a tile, expanded
+
+fn spread(dst: &mut [f32], value: f32)
+    ensures { λ _. ⌜ now (dst .exit) ≡ listed (length (now (dst .entry))) (λ x. value) ⌝ }
 {
-    samples(dst, src, s, row);
-    pad(dst, s.width as usize);
+    let mut x = 0;
+    while x < dst.len() {
+        dst[x] = value;
+        x += 1;
+    }
 }
 
-// ---- a line, from the planes. A row above the first is the first, and one below the last is the last.
-
-fn up(y: usize, k: usize) -> usize
-    ensures { λ r. ⌜ r ≡ y - k ⌝ }
+fn less(a: usize, b: usize) -> usize
+    ensures { λ r. ⌜ r ≡ a - b ⌝ }
 {
-    if y < k { 0 } else { y - k }
+    if a < b { 0 } else { a - b }
 }
 
 fn down(y: usize, k: usize, height: usize) -> usize
@@ -147,205 +140,290 @@ fn down(y: usize, k: usize, height: usize) -> usize
     if y + k < height { y + k } else { height - 1 }
 }
 
-// The rows k above and below.
+// The columns of a row that a tile needs, into the places from `start` on. The samples within the plane
+// are read, and those past an edge repeat the last within. A sampler holds a coordinate that lies outside
+// the plane, so one row of the plane stands for several rows of the sampler.
+fn expand(
+    rows: &mut [f32],
+    start: usize,
+    src: &[u8],
+    s: plane::Shape,
+    row: usize,
+    from: usize,
+    count: usize,
+)
+    requires { ⌜ Lent s (length (now src)) ⌝ }
+    requires { ⌜ Tiled s row from count × (length (now rows) ≡ 5240) × (start ≤ 4716) ⌝ }
+    ensures { λ _. ⌜ ((y : ℤ) → held (s .height) y ≡ row → RowOf (now (rows .exit)) start from count y (valueOf (now (src .entry)) s)) ⌝ }
+    ensures { λ _. ⌜ Under (now (rows .exit)) (now (rows .entry)) start ⌝ }
+{
+    let end = start + (count + 12);
+    let first = start + less(6, from);
+    let last = end - less(from + count + 6, s.width as usize);
+    samples(&mut rows[first..last], src, s, row, less(from, 6));
+    let leftmost = rows[first];
+    let rightmost = rows[last - 1];
+    spread(&mut rows[start..first], leftmost);
+    spread(&mut rows[last..end], rightmost);
+}
+
+// The rows k above and below. A row above the first is the first, and one below the last is the last.
 fn around(
-    above: &mut [f32; 8204],
-    below: &mut [f32; 8204],
+    rows: &mut [f32],
+    start: usize,
     src: &[u8],
     s: plane::Shape,
     y: usize,
     k: usize,
+    from: usize,
+    count: usize,
 )
     requires { ⌜ Lent s (length (now src)) ⌝ }
-    requires { ⌜ (y < s .height) × (k ≤ 3) ⌝ }
-    requires { ⌜ TwoRooms (now above) (now below) ⌝ }
-    ensures { λ _. ⌜ Around (now (above .exit)) (now (below .exit)) (valueOf (now (src .entry)) s) (s .width) (pos y) (pos k) ⌝ }
+    requires { ⌜ Tiled s y from count × (length (now rows) ≡ 5240) × (start ≤ 4192) × (k ≤ 3) ⌝ }
+    ensures { λ _. ⌜ Around (now (rows .exit)) start from count (pos y) (pos k) (valueOf (now (src .entry)) s) ⌝ }
+    ensures { λ _. ⌜ Under (now (rows .exit)) (now (rows .entry)) start ⌝ }
 {
-    expand(above, src, s, up(y, k));
-    expand(below, src, s, down(y, k, s.height as usize));
+    expand(rows, start, src, s, less(y, k), from, count);
+    expand(
+        rows,
+        start + 524,
+        src,
+        s,
+        down(y, k, s.height as usize),
+        from,
+        count,
+    );
 }
 
-fn three(
-    above: &mut [f32; 8204],
-    here: &mut [f32; 8204],
-    below: &mut [f32; 8204],
+fn trio(
+    rows: &mut [f32],
+    start: usize,
     src: &[u8],
     s: plane::Shape,
     y: usize,
+    from: usize,
+    count: usize,
 )
     requires { ⌜ Lent s (length (now src)) ⌝ }
-    requires { ⌜ y < s .height ⌝ }
-    requires { ⌜ ThreeRooms (now above) (now here) (now below) ⌝ }
-    ensures { λ _. ⌜ Three (now (above .exit)) (now (here .exit)) (now (below .exit)) (valueOf (now (src .entry)) s) (s .width) (pos y) ⌝ }
+    requires { ⌜ Tiled s y from count × (length (now rows) ≡ 5240) × (start ≤ 3668) ⌝ }
+    ensures { λ _. ⌜ Trio (now (rows .exit)) start from count (pos y) (valueOf (now (src .entry)) s) ⌝ }
+    ensures { λ _. ⌜ Under (now (rows .exit)) (now (rows .entry)) start ⌝ }
 {
-    around(above, below, src, s, y, 1);
-    expand(here, src, s, y);
+    around(rows, start, src, s, y, 1, from, count);
+    expand(rows, start + 1048, src, s, y, from, count);
 }
+
+// Where the rows start.
+const ABOVE: usize = 0;
+const BELOW: usize = 524;
+const EARLIER_UP: usize = 1048;
+const EARLIER_DOWN: usize = 1572;
+const EARLIER: usize = 2096;
+const LATER_UP: usize = 2620;
+const LATER_DOWN: usize = 3144;
+const LATER: usize = 3668;
+const FAR_ABOVE: usize = 4192;
 
 // What Motion looks at, of all three planes.
 fn motion(
+    rows: &mut [f32],
+    making: filter::Making,
     before: &[u8],
-    before_shape: plane::Shape,
     cur: &[u8],
-    cur_shape: plane::Shape,
     after: &[u8],
-    after_shape: plane::Shape,
     y: usize,
-    above: &mut [f32; 8204],
-    below: &mut [f32; 8204],
-    earlier_up: &mut [f32; 8204],
-    earlier: &mut [f32; 8204],
-    earlier_down: &mut [f32; 8204],
-    later_up: &mut [f32; 8204],
-    later: &mut [f32; 8204],
-    later_down: &mut [f32; 8204],
+    from: usize,
+    count: usize,
 )
-    requires { ⌜ Ready «before_shape» (length (now before)) «cur_shape» (length (now cur)) «after_shape» (length (now after)) ⌝ }
-    requires { ⌜ y < «cur_shape» .height ⌝ }
-    requires { ⌜ EightRooms (now above) (now below) (now «earlier_up») (now earlier) (now «earlier_down») (now «later_up») (now later) (now «later_down») ⌝ }
-    ensures { λ _. ⌜ Motion (now (above .exit)) (now (below .exit)) (now («earlier_up» .exit)) (now (earlier .exit)) (now («earlier_down» .exit)) (now («later_up» .exit)) (now (later .exit)) (now («later_down» .exit)) (valueOf (now (before .entry)) «before_shape») (valueOf (now (cur .entry)) «cur_shape») (valueOf (now (after .entry)) «after_shape») («cur_shape» .width) (pos y) ⌝ }
+    requires { ⌜ AllLent making (length (now before)) (length (now cur)) (length (now after)) ⌝ }
+    requires { ⌜ Tiled (making .cur) y from count × (length (now rows) ≡ 5240) ⌝ }
+    ensures { λ _. ⌜ Moving (now (rows .exit)) making (now (before .entry)) (now (cur .entry)) (now (after .entry)) from count y ⌝ }
+    ensures { λ _. ⌜ length (now (rows .exit)) ≡ 5240 ⌝ }
 {
-    around(above, below, cur, cur_shape, y, 1);
-    three(earlier_up, earlier, earlier_down, before, before_shape, y);
-    three(later_up, later, later_down, after, after_shape, y);
+    around(rows, ABOVE, cur, making.cur, y, 1, from, count);
+    trio(rows, EARLIER_UP, before, making.before, y, from, count);
+    trio(rows, LATER_UP, after, making.after, y, from, count);
 }
 
-// A row as one plane has it.
-fn own_line(out: &mut [f32], src: &[u8], s: plane::Shape, y: usize, row: &mut [f32; 8204])
-    requires { ⌜ Lent s (length (now src)) ⌝ }
-    requires { ⌜ (length (now out) ≡ s .width) × (y < s .height) × (length (now row) ≡ 8204) ⌝ }
-    ensures { λ _. ⌜ (now (out .exit) ≡ listed (s .width) (λ x. valueOf (now (src .entry)) s (pos x) (pos y))) × (length (now (row .exit)) ≡ 8204) ⌝ }
+// ---- a sample, from expanded rows. The column of a tile that is x stands n - 6 columns off at x + n.
+
+fn at(rows: &[f32], start: usize, x: usize, n: usize) -> f32
+    requires { ⌜ (length (now rows) ≡ 5240) × (start ≤ 4716) × (x ≤ 511) × (n ≤ 12) ⌝ }
+    ensures { λ r. ⌜ ((v : Sampler) (from count : ℕ) (y : ℤ) → RowOf (now (rows .entry)) start from count y v → x < count → r ≡ v (pos (from + x) +ℤ subℕ n 6) y) ⌝ }
 {
-    expand(row, src, s, y);
-    scanline::own(out, row);
+    rows[start + (x + n)]
 }
 
-fn bob_line(
+// A slant j of -2 to 2 is held as t = j + 2.
+fn score(rows: &[f32], x: usize, t: usize) -> f32
+    requires { ⌜ (length (now rows) ≡ 5240) × (x ≤ 511) × (t ≤ 4) ⌝ }
+    ensures { λ r. ⌜ ((v : Sampler) (from count : ℕ) (y : ℤ) → Around (now (rows .entry)) 0 from count y one v → x < count → r ≡ scoreOf v (pos (from + x)) y (step t)) ⌝ }
+{
+    filter::gap(at(rows, ABOVE, x, 3 + t), at(rows, BELOW, x, 7 - t))
+        + filter::gap(at(rows, ABOVE, x, 4 + t), at(rows, BELOW, x, 8 - t))
+        + filter::gap(at(rows, ABOVE, x, 5 + t), at(rows, BELOW, x, 9 - t))
+}
+
+fn near(rows: &[f32], x: usize, t: usize) -> f32
+    requires { ⌜ (length (now rows) ≡ 5240) × (x ≤ 511) × (t ≤ 4) ⌝ }
+    ensures { λ r. ⌜ ((v : Sampler) (from count : ℕ) (y : ℤ) → Around (now (rows .entry)) 0 from count y one v → x < count → r ≡ nearOf v (pos (from + x)) y (step t)) ⌝ }
+{
+    at(rows, ABOVE, x, 4 + t) + at(rows, BELOW, x, 8 - t)
+}
+
+fn far(rows: &[f32], start: usize, x: usize, t: usize) -> f32
+    requires { ⌜ (length (now rows) ≡ 5240) × (start ≤ 4192) × (x ≤ 511) × (t ≤ 4) ⌝ }
+    ensures { λ r. ⌜ ((v : Sampler) (from count : ℕ) (y off : ℤ) → Around (now (rows .entry)) start from count y off v → x < count → r ≡ alongOf v (pos (from + x)) y off (step t)) ⌝ }
+{
+    at(rows, start, x, 3 * t) + at(rows, start + 524, x, 12 - 3 * t)
+}
+
+// The best slant so far: its score, and the sums along it one row and three rows off. Carrying the sums
+// instead of the slant spares a look-up at a place that only the run decides, which no vector has.
+struct Pick {
+    score: f32,
+    near: f32,
+    far: f32,
+}
+
+fn better(best: Pick, score: f32, near: f32, far: f32) -> Pick
+    ensures { λ r. ⌜ r ≡ betterIn best score near far ⌝ }
+{
+    if score < best.score {
+        Pick { score, near, far }
+    } else {
+        best
+    }
+}
+
+fn tried(rows: &[f32], start: usize, x: usize, best: Pick, t: usize, steep: f32) -> Pick
+    requires { ⌜ (length (now rows) ≡ 5240) × (start ≤ 4192) × (x ≤ 511) × (t ≤ 4) × (steep ≡ ofInt binary32 (pos (natAbs (step t)))) ⌝ }
+    ensures { λ r. ⌜ Tries (now (rows .entry)) start x t best r ⌝ }
+{
+    let cost = score(rows, x, t) + 0.002 * steep;
+    better(best, cost, near(rows, x, t), far(rows, start, x, t))
+}
+
+// Along the best slant, for Yadif. It asks for nothing three rows off, so the rows one off stand in.
+fn edge(rows: &[f32], x: usize) -> Pick
+    requires { ⌜ (length (now rows) ≡ 5240) × (x ≤ 511) ⌝ }
+    ensures { λ r. ⌜ Picks (now (rows .entry)) 0 x r ⌝ }
+{
+    let straight = Pick {
+        score: score(rows, x, 2),
+        near: near(rows, x, 2),
+        far: far(rows, ABOVE, x, 2),
+    };
+    let left = tried(rows, ABOVE, x, straight, 1, 1.0);
+    let right = tried(rows, ABOVE, x, left, 3, 1.0);
+    let far_left = tried(rows, ABOVE, x, right, 0, 2.0);
+    tried(rows, ABOVE, x, far_left, 4, 2.0)
+}
+
+// The same for Bwdif. It stands twice because a function this large is inlined only where it has one
+// caller, and only what is inlined is vectorised.
+fn edge_far(rows: &[f32], x: usize) -> Pick
+    requires { ⌜ (length (now rows) ≡ 5240) × (x ≤ 511) ⌝ }
+    ensures { λ r. ⌜ Picks (now (rows .entry)) 4192 x r ⌝ }
+{
+    let straight = Pick {
+        score: score(rows, x, 2),
+        near: near(rows, x, 2),
+        far: far(rows, FAR_ABOVE, x, 2),
+    };
+    let left = tried(rows, FAR_ABOVE, x, straight, 1, 1.0);
+    let right = tried(rows, FAR_ABOVE, x, left, 3, 1.0);
+    let far_left = tried(rows, FAR_ABOVE, x, right, 0, 2.0);
+    tried(rows, FAR_ABOVE, x, far_left, 4, 2.0)
+}
+
+fn in_motion(rows: &[f32], x: usize, along: f32) -> f32
+    requires { ⌜ (length (now rows) ≡ 5240) × (x ≤ 511) ⌝ }
+    ensures { λ r. ⌜ ((before cur after : Sampler) (from count : ℕ) (y : ℤ) → Motion (now (rows .entry)) from count y before cur after → x < count → r ≡ inMotionOf before cur after (pos (from + x)) y along) ⌝ }
+{
+    let earlier = at(rows, EARLIER, x, 6);
+    let later = at(rows, LATER, x, 6);
+    let c = at(rows, ABOVE, x, 6);
+    let e = at(rows, BELOW, x, 6);
+    let average = filter::mean(earlier, later);
+    let change = filter::gap(earlier, later);
+    let up = filter::wider(at(rows, EARLIER_UP, x, 6), at(rows, LATER_UP, x, 6), c);
+    let down = filter::wider(at(rows, EARLIER_DOWN, x, 6), at(rows, LATER_DOWN, x, 6), e);
+    let outside = filter::beyond(average, c, e);
+    let half = float::max(float::max(change, up), down) * 0.5;
+    filter::hold(along, average, float::max(half, outside))
+}
+
+// ---- a tile of a line
+
+fn bob(
     out: &mut [f32],
+    rows: &mut [f32],
     src: &[u8],
     s: plane::Shape,
     y: usize,
-    above: &mut [f32; 8204],
-    below: &mut [f32; 8204],
+    from: usize,
 )
     requires { ⌜ Lent s (length (now src)) ⌝ }
-    requires { ⌜ (length (now out) ≡ s .width) × (y < s .height) ⌝ }
-    requires { ⌜ TwoRooms (now above) (now below) ⌝ }
-    ensures { λ _. ⌜ (now (out .exit) ≡ listed (s .width) (λ x. bobOf (valueOf (now (src .entry)) s) (pos x) (pos y))) × TwoRooms (now (above .exit)) (now (below .exit)) ⌝ }
+    requires { ⌜ Tiled s y from (length (now out)) × (length (now rows) ≡ 5240) ⌝ }
+    ensures { λ _. ⌜ now (out .exit) ≡ listed (length (now (out .entry))) (λ x. bobOf (valueOf (now (src .entry)) s) (pos (from + x)) (pos y)) ⌝ }
+    ensures { λ _. ⌜ length (now (rows .exit)) ≡ 5240 ⌝ }
 {
-    around(above, below, src, s, y, 1);
-    scanline::bob(out, above, below);
+    around(rows, ABOVE, src, s, y, 1, from, out.len());
+    let mut x = 0;
+    while x < out.len() {
+        out[x] = float::clamp(near(rows, x, 2) * 0.5, 0.0, 1.0);
+        x += 1;
+    }
 }
 
-fn yadif_line(
+fn yadif(
     out: &mut [f32],
+    rows: &mut [f32],
+    making: filter::Making,
     before: &[u8],
-    before_shape: plane::Shape,
     cur: &[u8],
-    cur_shape: plane::Shape,
     after: &[u8],
-    after_shape: plane::Shape,
     y: usize,
-    above: &mut [f32; 8204],
-    below: &mut [f32; 8204],
-    earlier_up: &mut [f32; 8204],
-    earlier: &mut [f32; 8204],
-    earlier_down: &mut [f32; 8204],
-    later_up: &mut [f32; 8204],
-    later: &mut [f32; 8204],
-    later_down: &mut [f32; 8204],
+    from: usize,
 )
-    requires { ⌜ Ready «before_shape» (length (now before)) «cur_shape» (length (now cur)) «after_shape» (length (now after)) ⌝ }
-    requires { ⌜ (length (now out) ≡ «cur_shape» .width) × (y < «cur_shape» .height) ⌝ }
-    requires { ⌜ EightRooms (now above) (now below) (now «earlier_up») (now earlier) (now «earlier_down») (now «later_up») (now later) (now «later_down») ⌝ }
-    ensures { λ _. ⌜ (now (out .exit) ≡ listed («cur_shape» .width) (λ x. yadifOf (valueOf (now (before .entry)) «before_shape») (valueOf (now (cur .entry)) «cur_shape») (valueOf (now (after .entry)) «after_shape») (pos x) (pos y))) × EightRooms (now (above .exit)) (now (below .exit)) (now («earlier_up» .exit)) (now (earlier .exit)) (now («earlier_down» .exit)) (now («later_up» .exit)) (now (later .exit)) (now («later_down» .exit)) ⌝ }
+    requires { ⌜ AllLent making (length (now before)) (length (now cur)) (length (now after)) ⌝ }
+    requires { ⌜ Tiled (making .cur) y from (length (now out)) × (length (now rows) ≡ 5240) ⌝ }
+    ensures { λ _. ⌜ now (out .exit) ≡ tileOf yadifOf making (now (before .entry)) (now (cur .entry)) (now (after .entry)) from (length (now (out .entry))) y ⌝ }
+    ensures { λ _. ⌜ length (now (rows .exit)) ≡ 5240 ⌝ }
 {
-    motion(
-        before,
-        before_shape,
-        cur,
-        cur_shape,
-        after,
-        after_shape,
-        y,
-        above,
-        below,
-        earlier_up,
-        earlier,
-        earlier_down,
-        later_up,
-        later,
-        later_down,
-    );
-    scanline::yadif(
-        out,
-        above,
-        below,
-        earlier_up,
-        earlier,
-        earlier_down,
-        later_up,
-        later,
-        later_down,
-    );
+    motion(rows, making, before, cur, after, y, from, out.len());
+    let mut x = 0;
+    while x < out.len() {
+        let pick = edge(rows, x);
+        out[x] = in_motion(rows, x, pick.near * 0.5);
+        x += 1;
+    }
 }
 
-fn bwdif_line(
+fn bwdif(
     out: &mut [f32],
+    rows: &mut [f32],
+    making: filter::Making,
     before: &[u8],
-    before_shape: plane::Shape,
     cur: &[u8],
-    cur_shape: plane::Shape,
     after: &[u8],
-    after_shape: plane::Shape,
     y: usize,
-    above: &mut [f32; 8204],
-    below: &mut [f32; 8204],
-    earlier_up: &mut [f32; 8204],
-    earlier: &mut [f32; 8204],
-    earlier_down: &mut [f32; 8204],
-    later_up: &mut [f32; 8204],
-    later: &mut [f32; 8204],
-    later_down: &mut [f32; 8204],
-    far_above: &mut [f32; 8204],
-    far_below: &mut [f32; 8204],
+    from: usize,
 )
-    requires { ⌜ Ready «before_shape» (length (now before)) «cur_shape» (length (now cur)) «after_shape» (length (now after)) ⌝ }
-    requires { ⌜ (length (now out) ≡ «cur_shape» .width) × (y < «cur_shape» .height) ⌝ }
-    requires { ⌜ TenRooms (now above) (now below) (now «earlier_up») (now earlier) (now «earlier_down») (now «later_up») (now later) (now «later_down») (now «far_above») (now «far_below») ⌝ }
-    ensures { λ _. ⌜ (now (out .exit) ≡ listed («cur_shape» .width) (λ x. bwdifOf (valueOf (now (before .entry)) «before_shape») (valueOf (now (cur .entry)) «cur_shape») (valueOf (now (after .entry)) «after_shape») (pos x) (pos y))) × TenRooms (now (above .exit)) (now (below .exit)) (now («earlier_up» .exit)) (now (earlier .exit)) (now («earlier_down» .exit)) (now («later_up» .exit)) (now (later .exit)) (now («later_down» .exit)) (now («far_above» .exit)) (now («far_below» .exit)) ⌝ }
+    requires { ⌜ AllLent making (length (now before)) (length (now cur)) (length (now after)) ⌝ }
+    requires { ⌜ Tiled (making .cur) y from (length (now out)) × (length (now rows) ≡ 5240) ⌝ }
+    ensures { λ _. ⌜ now (out .exit) ≡ tileOf bwdifOf making (now (before .entry)) (now (cur .entry)) (now (after .entry)) from (length (now (out .entry))) y ⌝ }
+    ensures { λ _. ⌜ length (now (rows .exit)) ≡ 5240 ⌝ }
 {
-    motion(
-        before,
-        before_shape,
-        cur,
-        cur_shape,
-        after,
-        after_shape,
-        y,
-        above,
-        below,
-        earlier_up,
-        earlier,
-        earlier_down,
-        later_up,
-        later,
-        later_down,
-    );
-    around(far_above, far_below, cur, cur_shape, y, 3);
-    scanline::bwdif(
-        out,
-        above,
-        below,
-        earlier_up,
-        earlier,
-        earlier_down,
-        later_up,
-        later,
-        later_down,
-        far_above,
-        far_below,
-    );
+    motion(rows, making, before, cur, after, y, from, out.len());
+    around(rows, FAR_ABOVE, cur, making.cur, y, 3, from, out.len());
+    let mut x = 0;
+    while x < out.len() {
+        let pick = edge_far(rows, x);
+        out[x] = in_motion(rows, x, filter::cubic(pick.near, pick.far));
+        x += 1;
+    }
 }
 
 // Whether a row is shown as `cur` has it.
@@ -360,146 +438,108 @@ fn kept(quality: filter::Quality, mated: bool, shown: bool) -> bool
     }
 }
 
-fn line(
+fn tile(
     out: &mut [f32],
-    quality: filter::Quality,
-    rows: filter::Rows,
+    rows: &mut [f32],
+    making: filter::Making,
     before: &[u8],
-    before_shape: plane::Shape,
     cur: &[u8],
-    cur_shape: plane::Shape,
     after: &[u8],
-    after_shape: plane::Shape,
     y: usize,
-    above: &mut [f32; 8204],
-    below: &mut [f32; 8204],
-    earlier_up: &mut [f32; 8204],
-    earlier: &mut [f32; 8204],
-    earlier_down: &mut [f32; 8204],
-    later_up: &mut [f32; 8204],
-    later: &mut [f32; 8204],
-    later_down: &mut [f32; 8204],
-    far_above: &mut [f32; 8204],
-    far_below: &mut [f32; 8204],
+    from: usize,
 )
-    requires { ⌜ Ready «before_shape» (length (now before)) «cur_shape» (length (now cur)) «after_shape» (length (now after)) ⌝ }
-    requires { ⌜ (length (now out) ≡ «cur_shape» .width) × (y < «cur_shape» .height) ⌝ }
-    requires { ⌜ TenRooms (now above) (now below) (now «earlier_up») (now earlier) (now «earlier_down») (now «later_up») (now later) (now «later_down») (now «far_above») (now «far_below») ⌝ }
-    ensures { λ _. ⌜ (now (out .exit) ≡ lineOf quality rows (valueOf (now (before .entry)) «before_shape») (valueOf (now (cur .entry)) «cur_shape») (valueOf (now (after .entry)) «after_shape») («cur_shape» .width) y) × TenRooms (now (above .exit)) (now (below .exit)) (now («earlier_up» .exit)) (now (earlier .exit)) (now («earlier_down» .exit)) (now («later_up» .exit)) (now (later .exit)) (now («later_down» .exit)) (now («far_above» .exit)) (now («far_below» .exit)) ⌝ }
+    requires { ⌜ AllLent making (length (now before)) (length (now cur)) (length (now after)) ⌝ }
+    requires { ⌜ Tiled (making .cur) y from (length (now out)) × (length (now rows) ≡ 5240) ⌝ }
+    ensures { λ _. ⌜ now (out .exit) ≡ sampleTile making (now (before .entry)) (now (cur .entry)) (now (after .entry)) from (length (now (out .entry))) y ⌝ }
+    ensures { λ _. ⌜ length (now (rows .exit)) ≡ 5240 ⌝ }
 {
+    let quality = making.quality;
     let parity = (y % 2) as u32;
-    if kept(quality, parity == rows.mate, parity == rows.first) {
-        own_line(out, cur, cur_shape, y, above);
+    let shown = making.rows;
+    if kept(quality, parity == shown.mate, parity == shown.first) {
+        samples(out, cur, making.cur, y, from);
         return;
     }
     match quality {
         filter::Quality::Weave => {
-            own_line(out, before, before_shape, y, above);
+            samples(out, before, making.before, y, from);
         }
         filter::Quality::Bob => {
-            bob_line(out, cur, cur_shape, y, above, below);
+            bob(out, rows, cur, making.cur, y, from);
         }
         filter::Quality::Yadif => {
-            yadif_line(
-                out,
-                before,
-                before_shape,
-                cur,
-                cur_shape,
-                after,
-                after_shape,
-                y,
-                above,
-                below,
-                earlier_up,
-                earlier,
-                earlier_down,
-                later_up,
-                later,
-                later_down,
-            );
+            yadif(out, rows, making, before, cur, after, y, from);
         }
         filter::Quality::Bwdif => {
-            bwdif_line(
-                out,
-                before,
-                before_shape,
-                cur,
-                cur_shape,
-                after,
-                after_shape,
-                y,
-                above,
-                below,
-                earlier_up,
-                earlier,
-                earlier_down,
-                later_up,
-                later,
-                later_down,
-                far_above,
-                far_below,
-            );
+            bwdif(out, rows, making, before, cur, after, y, from);
         }
     }
 }
 
-// ---- a band of rows, and the whole plane
+// ---- a line, a part and the whole plane
 
-// The arrays are made once for all lines, since to make them costs more than to make a line.
+// Ten rows of 512 columns stay in the nearest cache.
+fn line(
+    out: &mut [f32],
+    rows: &mut [f32],
+    making: filter::Making,
+    before: &[u8],
+    cur: &[u8],
+    after: &[u8],
+    y: usize,
+    left: usize,
+)
+    requires { ⌜ AllLent making (length (now before)) (length (now cur)) (length (now after)) ⌝ }
+    requires { ⌜ (y < making .cur .height) × (left + length (now out) ≤ making .cur .width) × (length (now rows) ≡ 5240) ⌝ }
+    ensures { λ _. ⌜ now (out .exit) ≡ sampleTile making (now (before .entry)) (now (cur .entry)) (now (after .entry)) left (length (now (out .entry))) y ⌝ }
+    ensures { λ _. ⌜ length (now (rows .exit)) ≡ 5240 ⌝ }
+{
+    let mut x = 0;
+    while x < out.len() {
+        let to = shorter(x + 512, out.len());
+        tile(&mut out[x..to], rows, making, before, cur, after, y, left + x);
+        x = to;
+    }
+}
+
+fn shorter(a: usize, b: usize) -> usize
+    ensures { λ r. ⌜ r ≡ min a b ⌝ }
+{
+    if a < b { a } else { b }
+}
+
+// The rows are made once for all lines, since to clear them costs as much as to make a line.
 fn lines(
     out: &mut [f32],
-    quality: filter::Quality,
-    rows: filter::Rows,
+    making: filter::Making,
     before: &[u8],
-    before_shape: plane::Shape,
     cur: &[u8],
-    cur_shape: plane::Shape,
     after: &[u8],
-    after_shape: plane::Shape,
-    from: usize,
-    count: usize,
+    place: Place,
 )
-    requires { ⌜ Ready «before_shape» (length (now before)) «cur_shape» (length (now cur)) «after_shape» (length (now after)) ⌝ }
-    requires { ⌜ (from + count ≤ «cur_shape» .height) × (count * «cur_shape» .width ≤ length (now out)) ⌝ }
-    ensures { λ _. ⌜ now (out .exit) ≡ over (bandOf quality rows (valueOf (now (before .entry)) «before_shape») (valueOf (now (cur .entry)) «cur_shape») (valueOf (now (after .entry)) «after_shape») («cur_shape» .width) from count) (now (out .entry)) ⌝ }
+    requires { ⌜ AllLent making (length (now before)) (length (now cur)) (length (now after)) ⌝ }
+    requires { ⌜ (place .top + place .height ≤ making .cur .height) × (place .left + place .width ≤ making .cur .width) ⌝ }
+    requires { ⌜ place .height * place .width ≤ length (now out) ⌝ }
+    ensures { λ _. ⌜ now (out .exit) ≡ over (partMade making place (now (before .entry)) (now (cur .entry)) (now (after .entry))) (now (out .entry)) ⌝ }
 {
-    let mut above = [0.0f32; 8204];
-    let mut below = [0.0f32; 8204];
-    let mut earlier_up = [0.0f32; 8204];
-    let mut earlier = [0.0f32; 8204];
-    let mut earlier_down = [0.0f32; 8204];
-    let mut later_up = [0.0f32; 8204];
-    let mut later = [0.0f32; 8204];
-    let mut later_down = [0.0f32; 8204];
-    let mut far_above = [0.0f32; 8204];
-    let mut far_below = [0.0f32; 8204];
-    let width = cur_shape.width as usize;
+    let mut rows = [0.0f32; 5240];
+    let height = place.height as usize;
+    let width = place.width as usize;
+    let top = place.top as usize;
+    let left = place.left as usize;
     let mut y = 0;
-    while y < count {
+    while y < height {
         let at = y * width;
         let to = at + width;
         line(
             &mut out[at..to],
-            quality,
-            rows,
+            &mut rows[0..5240],
+            making,
             before,
-            before_shape,
             cur,
-            cur_shape,
             after,
-            after_shape,
-            from + y,
-            &mut above,
-            &mut below,
-            &mut earlier_up,
-            &mut earlier,
-            &mut earlier_down,
-            &mut later_up,
-            &mut later,
-            &mut later_down,
-            &mut far_above,
-            &mut far_below,
+            top + y,
+            left,
         );
         y += 1;
     }
@@ -511,84 +551,64 @@ fn area(height: u16, width: u16) -> usize
     (height as usize) * (width as usize)
 }
 
-// The samples of `count` rows from `from` on, laid end to end.
-pub fn band(
+// The samples of a part, row by row, laid end to end.
+pub fn part(
     out: &mut [f32],
-    quality: filter::Quality,
-    rows: filter::Rows,
+    making: filter::Making,
     before: &[u8],
-    before_shape: plane::Shape,
     cur: &[u8],
-    cur_shape: plane::Shape,
     after: &[u8],
-    after_shape: plane::Shape,
-    from: u16,
-    count: u16,
+    place: Place,
 ) -> u8
-    ensures { λ r. ⌜ r ≡ bandNo rows «before_shape» (length (now (before .entry))) «cur_shape» (length (now (cur .entry))) «after_shape» (length (now (after .entry))) from count (length (now (out .entry))) ⌝ }
-    ensures { λ _. ⌜ now (out .exit) ≡ written (bandNo rows «before_shape» (length (now (before .entry))) «cur_shape» (length (now (cur .entry))) «after_shape» (length (now (after .entry))) from count (length (now (out .entry)))) (over (bandOf quality rows (valueOf (now (before .entry)) «before_shape») (valueOf (now (cur .entry)) «cur_shape») (valueOf (now (after .entry)) «after_shape») («cur_shape» .width) from count) (now (out .entry))) (now (out .entry)) ⌝ }
+    ensures { λ r. ⌜ r ≡ partNo making place (length (now (before .entry))) (length (now (cur .entry))) (length (now (after .entry))) (length (now (out .entry))) ⌝ }
+    ensures { λ r. ⌜ now (out .exit) ≡ written r (over (partMade making place (now (before .entry)) (now (cur .entry)) (now (after .entry))) (now (out .entry))) (now (out .entry)) ⌝ }
 {
-    let inside = (rows.first <= 1)
-        & (rows.mate <= 2)
-        & ((from as usize) + (count as usize) <= cur_shape.height as usize);
-    let shapes = plane::good_shape(before_shape)
-        & plane::good_shape(cur_shape)
-        & plane::good_shape(after_shape);
-    let same = plane::planes_agree(before_shape, cur_shape)
-        & plane::planes_agree(after_shape, cur_shape);
-    let whole = (plane::plane_bytes(before_shape) <= before.len())
-        & (plane::plane_bytes(cur_shape) <= cur.len())
-        & (plane::plane_bytes(after_shape) <= after.len());
-    let room = area(count, cur_shape.width) <= out.len();
-    let no = refusal::lowest_of(inside, shapes, same, whole, room, true);
+    let shape = making.cur;
+    let inside = filter::rows_good(making.rows)
+        & ((place.top as usize) + (place.height as usize) <= shape.height as usize)
+        & ((place.left as usize) + (place.width as usize) <= shape.width as usize);
+    let room = area(place.height, place.width) <= out.len();
+    let whole = filter::planes_whole(making, before.len(), cur.len(), after.len());
+    let no = refusal::test(
+        refusal::OUTSIDE,
+        inside,
+        refusal::test(
+            refusal::SHAPE,
+            filter::planes_good(making),
+            refusal::test(
+                refusal::DIFFER,
+                filter::planes_alike(making),
+                refusal::test(
+                    refusal::SHORT_INPUT,
+                    whole,
+                    refusal::test(refusal::SHORT_OUTPUT, room, refusal::DONE),
+                ),
+            ),
+        ),
+    );
     if no == 0 {
-        lines(
-            out,
-            quality,
-            rows,
-            before,
-            before_shape,
-            cur,
-            cur_shape,
-            after,
-            after_shape,
-            from as usize,
-            count as usize,
-        );
+        lines(out, making, before, cur, after, place);
     }
     no
 }
 
-// The samples of every row, of a plane of which the field `first` is shown.
+// The samples of every row.
 pub fn plane(
     out: &mut [f32],
-    quality: filter::Quality,
-    first: field::Parity,
+    making: filter::Making,
     before: &[u8],
-    before_shape: plane::Shape,
     cur: &[u8],
-    cur_shape: plane::Shape,
     after: &[u8],
-    after_shape: plane::Shape,
 ) -> u8
-    ensures { λ r. ⌜ r ≡ planeNo «before_shape» (length (now (before .entry))) «cur_shape» (length (now (cur .entry))) «after_shape» (length (now (after .entry))) (length (now (out .entry))) ⌝ }
-    ensures { λ _. ⌜ now (out .exit) ≡ written (planeNo «before_shape» (length (now (before .entry))) «cur_shape» (length (now (cur .entry))) «after_shape» (length (now (after .entry))) (length (now (out .entry)))) (over (linesOf quality (fieldRows first) (valueOf (now (before .entry)) «before_shape») (valueOf (now (cur .entry)) «cur_shape») (valueOf (now (after .entry)) «after_shape») («cur_shape» .width) («cur_shape» .height)) (now (out .entry))) (now (out .entry)) ⌝ }
+    ensures { λ r. ⌜ r ≡ planeNo making (length (now (before .entry))) (length (now (cur .entry))) (length (now (after .entry))) (length (now (out .entry))) ⌝ }
+    ensures { λ r. ⌜ now (out .exit) ≡ written r (over (planeMade making (now (before .entry)) (now (cur .entry)) (now (after .entry))) (now (out .entry))) (now (out .entry)) ⌝ }
 {
-    let rows = filter::Rows {
-        first: first.first_row(),
-        mate: 2,
+    let shape = making.cur;
+    let everything = Place {
+        top: 0,
+        height: shape.height,
+        left: 0,
+        width: shape.width,
     };
-    band(
-        out,
-        quality,
-        rows,
-        before,
-        before_shape,
-        cur,
-        cur_shape,
-        after,
-        after_shape,
-        0,
-        cur_shape.height,
-    )
+    part(out, making, before, cur, after, everything)
 }

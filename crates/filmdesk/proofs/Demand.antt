@@ -2,24 +2,25 @@
 use Prim.Native.Nat.{ℕ, _+_, _≤_, _<_}
 use mathlib.Core.Path.{_≡_, refl, sym, ap, _∙_}
 use mathlib.Core.Logic.{_↔_, ⊎-elim}
-use mathlib.Core.Bool.{Bool, true, false, cond, _&&_}
+use mathlib.Core.Bool.{Bool, true, false, cond}
 use mathlib.Core.List.{List, [], _∷_}
 use native.Mathlib.Omega.{arith}
 use lib.Dec.{leb}
 use lib.ListN.{length}
 use borrow.Author.Tests.{le-leb, lt-leb, ne-eqb}
-use Rattle.laws.specs.Refusal.{lowest, written}
+use Rattle.laws.specs.Refusal.{lowest, written, rising}
+use Rattle.laws.proofs.Refusal.{all-pass}
 use Rattle.field.specs.declared.Cadence.{Cadence}
 use Rattle.field.specs.declared.Cadence.the-variants.{None, Whole, Drop, Spanning}
 use Rattle.field.specs.Field.{cadenceNumber}
 use Rattle.pulldown.specs.Runs.{Frame, Meets, phaseOf, lockFrame, foretold}
-use Rattle.pulldown.proofs.Bools.{known, clash}
+use Rattle.laws.proofs.Bools.{known, clash, and-left}
 use Rattle.telecine.specs.Detector.{freshDetector, resetOf}
 use Rattle.telecine.specs.History as calls
-use Rattle.telecine.proofs.Held as telecine-held
+use Rattle.telecine.proofs.Reached as telecine-reached
 use Rattle.telecine.proofs.Claims as telecine
 use Rattle.filmdesk.specs.Kept.{numberIf, detectorIn}
-use Rattle.filmdesk.specs.Film.{stateNo, predictStateNo}
+use Rattle.filmdesk.specs.Film.{newTests, stateTests, stateNo, predictStateNo, measuredStateTests, pushStateTests}
 use Rattle.filmdesk.specs.History.{Given, picture, counts, Call, new, push, reset, Lent, numberIn, byteIn, numberOf, next, after, named, frameOf, byteOf, callsOf}
 use Rattle.filmdesk.specs.Claims.{RefusedLeaves, TooShort, BytesStay, RefusalKnown, ThirdDemand, TellsLock, LockedOverCalls, PredictOverCalls}
 use Rattle.filmdesk.proofs.States.{found-again, fresh-sized, reset-sized}
@@ -50,7 +51,7 @@ record Follows (l : Lent) (made : List Call) : Type 0 where
   holds : Holds (after l made) (calls.after found (callsOf made))
 
 store-long : (l : Lent) (made : List Call) → Follows l made → length (after l made .store) ≡ length (l .store)
-store-long l made f = ap length (f .holds .store) ∙ telecine-held.any-held (f .found) (callsOf made) .long ∙ f .long
+store-long l made f = ap length (f .holds .store) ∙ telecine-reached.any-reached (f .found) (callsOf made) .long ∙ f .long
 
 follows : (l : Lent) (made : List Call) → 96 ≤ length (l .state) → Follows l made
 follows l [] room = record { found = l .store; long = refl; holds = new-holds l room }
@@ -89,28 +90,18 @@ bytes-stay l before = record {
     pushed (picture parity plane n) h = bytes-stay-by _ _ before h
     pushed (counts parity present busy total other-busy other-total) h = bytes-stay-by _ _ before h
 
--- a list in which some test fails, under a number that is not 0
-short-state : (named good long whole kept : Bool) (tests : List (ℕ × Bool)) → long ≡ false
-    → (lowest ((7, long) ∷ []) ≡ 0 → ⊥) × (lowest ((6, long) ∷ []) ≡ 0 → ⊥)
-    × (lowest ((3, named) ∷ (6, long) ∷ tests) ≡ 0 → ⊥)
-    × (lowest ((3, named) ∷ (4, good) ∷ (6, long && whole && kept) ∷ tests) ≡ 0 → ⊥)
-unfolding lowest
-short-state true true long whole kept tests e = rw e (λ z. omega arith, λ z. omega arith, λ z. omega arith, λ z. omega arith)
-short-state true false long whole kept tests e = rw e (λ z. omega arith, λ z. omega arith, λ z. omega arith, λ z. omega arith)
-short-state false true long whole kept tests e = rw e (λ z. omega arith, λ z. omega arith, λ z. omega arith, λ z. omega arith)
-short-state false false long whole kept tests e = rw e (λ z. omega arith, λ z. omega arith, λ z. omega arith, λ z. omega arith)
-
+-- every call looks at the state's length
 pub too-short : TooShort
-too-short l call h = by-call call
+unfolding rising
+too-short l call h done = clash (long call done) (lt-leb 96 (length (l .state)) h)
   where
-    long : leb 96 (length (l .state)) ≡ false
-    long = lt-leb 96 (length (l .state)) h
-
-    by-call : (call : Call) → numberOf l call ≡ 0 → ⊥
-    by-call new = short-state true true _ true true [] long .0
-    by-call reset = short-state true true _ true true [] long .1
-    by-call (push (counts parity present busy total other-busy other-total)) = short-state _ true _ true true _ long .2
-    by-call (push (picture parity plane n)) = short-state _ _ _ _ _ _ long .3
+    long : (call : Call) → numberOf l call ≡ 0 → leb 96 (length (l .state)) ≡ true
+    long new z = all-pass (newTests (length (l .state))) tt z .0
+    long reset z = all-pass (stateTests (length (l .state))) tt z .0
+    long (push (counts parity present busy total other-busy other-total)) z =
+        all-pass (measuredStateTests parity present (length (l .state)) (detectorIn (l .state))) tt z .1 .0
+    long (push (picture parity plane n)) z =
+        and-left _ _ (and-left _ _ (all-pass (pushStateTests n parity (length plane) (length (l .store)) (length (l .state)) (detectorIn (l .state))) tt z .1 .1 .0))
 
 first-test : (b : Bool) (tests : List (ℕ × Bool)) → lowest ((3, b) ∷ tests) ≡ cond b (lowest tests) 3
 unfolding lowest

@@ -9,7 +9,7 @@ use borrow.Author.Tests.{le-leb}
 use Rattle.laws.specs.Refusal.{lowest}
 use Rattle.field.specs.Field.{parityNamed, cadenceNumber}
 use Rattle.telecine.specs.History as calls
-use Rattle.filmdesk.specs.Film.{gridNamed, measuredNamed}
+use Rattle.filmdesk.specs.Film.{pictureNamed, measuredNamed}
 use Rattle.filmdesk.specs.History.{Given, picture, counts, push, Lent, numberIn, byteIn, next, named, frameOf}
 use Rattle.filmdesk.proofs.States.{measured-sized, push-sized}
 use Rattle.filmdesk.proofs.Holds.{Holds, written-by, once}
@@ -44,7 +44,7 @@ module _ (l : Lent) (s : calls.State) (h : Holds l s) where
   push-named (picture parity plane n) e =
       let u = picture parity plane n in
       let number = calls.numberIn s (frameOf u) in
-      let z = push-sized (s .detector) (s .store) plane (gridNamed n) (parityNamed parity) (h .sized) in
+      let z = push-sized (s .detector) (s .store) plane (pictureNamed n) (parityNamed parity) (h .sized) in
       let w = written-by (eqb number 0) (l .state) (s .detector) _ (h .room) (h .detector) z in
       rw (number-named u e, h .detector, h .store)
       (record { room = w .room; detector = w .detector ∙ once number _ (s .detector); sized = z; store = once number _ (s .store) })

@@ -27,7 +27,7 @@ pub record Holds (l : Lent) (s : calls.State) : Type 0 where
 bytes-of : (d : Detector) → Sized d → length (detectorBytes d) ≡ 96
 bytes-of d z =
     omega
-    (arith, length-append (packedOf (detectorNumbers d)) (d .lock .ring ++ (d .lock .phase ∷ [])), length-append (d .lock .ring) (d .lock .phase ∷ []), packed-size (detectorNumbers d), z .ring)
+    (arith, length-append (packedOf (detectorNumbers d)) (d .lock .ring ++ (d .lock .course .phase ∷ [])), length-append (d .lock .ring) (d .lock .course .phase ∷ []), packed-size (detectorNumbers d), z .ring)
 
 pub room-after : (d : Detector) (state : List ℕ) → Sized d → 96 ≤ length state → 96 ≤ length (keeping d state)
 room-after d state z h = omega (arith, bytes-of d z, length-over (detectorBytes d) state (omega (arith, bytes-of d z)))

@@ -15,21 +15,17 @@ use Rattle.laws.proofs.Rows.{over-all}
 use Rattle.laws.proofs.Sums.{same-terms}
 use Rattle.field.specs.declared.Chosen.the-variants as chosen
 use Rattle.field.specs.declared.Parity.{Parity}
-use Rattle.field.specs.Field.{parityNamed}
 use Rattle.plane.specs.declared.Shape.{Shape}
 use Rattle.packed.specs.Packed.{packedOf, numberAt, packNo}
 use Rattle.packed.proofs.Claims.{packed-size}
 use Rattle.pulldown.specs.declared.Lock.{Lock}
 use Rattle.pulldown.specs.declared.Seen.{Seen}
 use Rattle.pulldown.specs.declared.Seen.the-variants as seen
-use Rattle.pulldown.specs.declared.Course.{Course}
-use Rattle.pulldown.specs.Lock.{advanceOf, pushLock, lockWith}
+use Rattle.pulldown.specs.Lock.{advanceOf, pushLock}
 use Rattle.pulldown.specs.Lock as lock
 use Rattle.telecine.specs.declared.Detector.{Detector}
-use Rattle.telecine.specs.declared.Measured.{Measured}
-use Rattle.telecine.specs.Detector.{seenMeasured, measuredNo, measuredDetector, seenPicture, keptAs, pushNo, pushDetector}
+use Rattle.telecine.specs.Detector.{seenPicture, keptAs, pushNo, pushDetector}
 use Rattle.filmdesk.specs.Kept.{detectorIn}
-use Rattle.filmdesk.specs.Inner.{detectorWith}
 
 -- ---- what the writes of a detector leave: its numbers in front, the ring and the phase behind them
 module _ (numbers state : List ℕ) (ten : length numbers ≡ 10) (room : 96 ≤ length state) where
@@ -76,11 +72,6 @@ either-ring : (b : Bool) (x y : Detector) → length (x .lock .ring) ≡ 15 → 
 either-ring true x y e f = e
 either-ring false x y e f = f
 
-pub measured-ring : (d : Detector) (first : Parity) (m : Measured) → length (d .lock .ring) ≡ 15 → length (measuredDetector d first m .lock .ring) ≡ 15
-measured-ring d first m e =
-    let s = seenMeasured (d .last) first m in
-    either-ring (eqb (measuredNo d) 0) (record { lock = advanceOf (d .lock) s; kept = d .kept; last = chosen.Field first }) d (advanced-ring (d .lock) s e) e
-
 pub pushed-ring :
     (d : Detector) (store plane : List ℕ) (s : Shape) (first : Parity) → length (d .lock .ring) ≡ 15 →
     length (pushDetector d store plane s first .lock .ring) ≡ 15
@@ -88,17 +79,6 @@ pushed-ring d store plane s first e =
     let seen = seenPicture (d .kept) store plane s first in
     either-ring (eqb (pushNo d s (length plane) (length store)) 0) (record { lock = advanceOf (d .lock) seen; kept = keptAs s first; last = chosen.Field first }) d
     (advanced-ring (d .lock) seen e) e
-
--- ---- counts that were taken, by the parts of a detector
-pub measured-parts :
-    (d : Detector) (first : Parity) (m : Measured) (ring : List ℕ) (c : Course) →
-    lockWith ring c ≡ pushLock (d .lock) (seenMeasured (d .last) first m) → measuredNo d ≡ 0 →
-    detectorWith ring c (d .kept) (chosen.Field first) ≡ measuredDetector d first m
-measured-parts d first m ring c pushed none =
-    let after = advanceOf (d .lock) (seenMeasured (d .last) first m) in
-    let taken : Detector = record { lock = after; kept = d .kept; last = chosen.Field first } in
-    (λ i. record { lock = (pushed ∙ ap (λ (n : ℕ). written n after (d .lock)) none) i; kept = d .kept; last = chosen.Field first })
-    ∙ sym (ap (λ (n : ℕ). written n taken d) none)
 
 pub pushed-lock : (l : Lock) (s : Seen) → length (l .ring) ≡ 15 → length (pushLock l s .ring) ≡ 15
 pushed-lock l s e = either (eqb (lock.pushNo l) 0)

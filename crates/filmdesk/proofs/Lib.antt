@@ -1,8 +1,6 @@
 -- Laws that the proofs of this crate share, and the claims.
-pub mod General
 pub mod Kept
 pub mod Calls
-pub mod Grids
 pub mod Sized
 pub mod States
 pub mod Holds

@@ -2,7 +2,7 @@
 use Prim.Native.Nat.{ℕ, _+_, _<_, _^_, min}
 use mathlib.Core.Path.{_≡_, refl}
 use mathlib.Core.Bool.{Bool, true, false, cond, _&&_}
-use mathlib.Core.List.{List, []}
+use mathlib.Core.List.{List}
 use native.Mathlib.Nat.{mod-lt, lt-trans}
 use native.Mathlib.Decide.{ℕ-discrete}
 use native.Mathlib.Omega.{arith}
@@ -11,7 +11,6 @@ use lib.Dec.{ltb, eqb, lit<}
 use lib.ListN.{length, getD, set, getD-replicate}
 use lib.Seq.{getD-set-same, getD-set-other}
 use Rattle.laws.specs.Refusal.{written}
-use Rattle.laws.proofs.Refusal.{first-passes}
 use Rattle.field.specs.declared.Chosen.{Chosen}
 use Rattle.pulldown.specs.declared.Symbol.{Symbol}
 use Rattle.pulldown.specs.declared.Symbol.the-variants.{Still, Moved, RepeatFirst, RepeatSecond}
@@ -22,7 +21,7 @@ use Rattle.pulldown.specs.Runs.{Frame, frameOf, stepOf, contradicts}
 use Rattle.pulldown.specs.Lock.{candidateOf, lockedBy, phaseAfter, stillsAfter, place, heldWith, windowWith, phaseLeft, freshLock, advanceOf}
 use Rattle.telecine.specs.declared.Detector.{Detector}
 use Rattle.telecine.specs.declared.Kept.{Kept}
-use Rattle.telecine.specs.Detector.{measuredNo, nothingKept}
+use Rattle.telecine.specs.Detector.{nothingKept}
 use Rattle.filmdesk.specs.Claims.{Sized}
 use Rattle.filmdesk.proofs.Kept.{advanced-ring}
 
@@ -69,7 +68,7 @@ one-more n h = lt-trans (next-below n h) (lit< tt)
     next-below n h = omega arith
 
 pub advanced-sized :
-    (d : Detector) (s : Seen) (kept : Kept) (last : Chosen) → Sized d → d .lock .taken < 4000000000 → kept .width < 65536 → kept .height < 65536 →
+    (d : Detector) (s : Seen) (kept : Kept) (last : Chosen) → Sized d → d .lock .course .taken < 4000000000 → kept .width < 65536 → kept .height < 65536 →
     Sized (record { lock = advanceOf (d .lock) s; kept = kept; last = last })
 unfolding advanceOf
 advanced-sized d seen.NotComparable kept last z few width height = record {
@@ -77,7 +76,7 @@ advanced-sized d seen.NotComparable kept last z few width height = record {
   symbols = z .symbols;
   next = z .next;
   held = lit< tt;
-  taken = one-more (d .lock .taken) few;
+  taken = one-more (d .lock .course .taken) few;
   phase = lit< tt;
   since = z .since;
   stills = lit< tt;
@@ -87,16 +86,16 @@ advanced-sized d seen.NotComparable kept last z few width height = record {
 advanced-sized d (seen.Symbol s) kept last z few width height =
     let l = d .lock in
     let left = phaseLeft l s in
-    let frame = frameOf (l .taken) s in
+    let frame = frameOf (l .course .taken) s in
     record {
       ring = advanced-ring l (seen.Symbol s) (z .ring);
-      symbols = λ i below. set-below (l .ring) (place l) (symbolNumber s) (rw (z .ring) (mod-lt (l .next) (lit< tt))) (symbol-below s) i (z .symbols i below);
+      symbols = λ i below. set-below (l .ring) (place l) (symbolNumber s) (rw (z .ring) (mod-lt (l .course .next) (lit< tt))) (symbol-below s) i (z .symbols i below);
       next = lt-trans (mod-lt (place l + 1) (lit< tt)) (lit< tt);
-      held = either-below (2 ^ 64) (contradicts left frame) 0 (heldWith l) (lit< tt) (min-below (2 ^ 64) 15 (l .held + 1) (lit< tt));
-      taken = one-more (l .taken) few;
-      phase = phase-below (windowWith l s) left frame (either-below 256 (ltb (stillsAfter (l .stills) s) 12) (l .phase) 5 (z .phase) (lit< tt));
-      since = either-below (2 ^ 64) (ltb left 5) (l .since) (l .taken) (z .since) (z .taken);
-      stills = either-below (2 ^ 64) (sameSymbol s Still) (min 12 (l .stills + 1)) 0 (min-below (2 ^ 64) 12 (l .stills + 1) (lit< tt)) (lit< tt);
+      held = either-below (2 ^ 64) (contradicts left frame) 0 (heldWith l) (lit< tt) (min-below (2 ^ 64) 15 (l .course .held + 1) (lit< tt));
+      taken = one-more (l .course .taken) few;
+      phase = phase-below (windowWith l s) left frame (either-below 256 (ltb (stillsAfter (l .course .stills) s) 12) (l .course .phase) 5 (z .phase) (lit< tt));
+      since = either-below (2 ^ 64) (ltb left 5) (l .course .since) (l .course .taken) (z .since) (z .taken);
+      stills = either-below (2 ^ 64) (sameSymbol s Still) (min 12 (l .course .stills + 1)) 0 (min-below (2 ^ 64) 12 (l .course .stills + 1) (lit< tt)) (lit< tt);
       width = width;
       height = height;
     }
@@ -123,6 +122,3 @@ written-sized n new old z made = by-test (eqb n 0) refl
     by-test : (b : Bool) → eqb n 0 ≡ b → Sized (cond b new old)
     by-test true e = made (eqb-true n 0 e)
     by-test false e = z
-
-pub few-taken : (d : Detector) → measuredNo d ≡ 0 → d .lock .taken < 4000000000
-few-taken d none = ltb-true _ _ (first-passes 9 _ [] (lit< tt) none)

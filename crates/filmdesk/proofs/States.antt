@@ -8,24 +8,26 @@ use native.Mathlib.Omega.{arith}
 use lib.Dec.{eqb, lit<}
 use lib.ListN.{length, getD, drop, List·getD-append, length-append}
 use lib.Seq.{getD-append-add, getD-append-seam, drop-append-seam}
-use Rattle.laws.proofs.Refusal.{first-passes, rest-passes}
+use Rattle.laws.specs.Refusal.{rising}
+use Rattle.laws.proofs.Refusal.{all-pass}
+use Rattle.laws.proofs.Digits.{digits-below}
 use Rattle.laws.proofs.Lists.{listed-at, listed-again, same-listed}
 use Rattle.field.specs.declared.Chosen.{Chosen}
 use Rattle.field.specs.declared.Chosen.the-variants as chosen
 use Rattle.field.specs.declared.Parity.{Parity}
 use Rattle.field.specs.declared.Parity.the-variants as parity
 use Rattle.field.specs.Field.{firstRowOf, parityNamed}
-use Rattle.plane.specs.Plane.{goodShape}
 use Rattle.plane.proofs.Bounds.{good-within}
 use Rattle.packed.specs.Packed.{packedOf, numberAt}
 use Rattle.packed.proofs.Claims.{packed-size, reads-back}
 use Rattle.telecine.specs.declared.Detector.{Detector}
-use Rattle.telecine.specs.Detector.{seenMeasured, measuredNo, seenPicture, keptAs, pushNo}
+use Rattle.telecine.specs.Detector.{seenMeasured, measuredNo, seenPicture, keptAs, pushTests, pushNo}
+use Rattle.telecine.specs.History.{picture, measured}
+use Rattle.telecine.proofs.Reached.{few-taken}
 use Rattle.filmdesk.specs.Kept.{numberIf, chosenNumber, chosenNamed, detectorNumbers, detectorBytes, detectorIn, keeping}
 use Rattle.filmdesk.specs.Claims.{Sized, FoundAgain, AlwaysSized, FreshSized, ResetSized, MeasuredSized, PushSized}
-use Rattle.filmdesk.proofs.General.{digits-below}
 use Rattle.filmdesk.proofs.Kept.{found-ring}
-use Rattle.filmdesk.proofs.Sized.{advanced-sized, fresh-with, written-sized, few-taken}
+use Rattle.filmdesk.proofs.Sized.{advanced-sized, fresh-with, written-sized}
 
 -- ---- what a number stands for is read back
 held-back : (b : Bool) → not (eqb (numberIf b) 0) ≡ b
@@ -59,7 +61,7 @@ last-small (chosen.Field parity.Bottom) = lit< tt
 module _ (d : Detector) (bytes : List ℕ) (s : Sized d) where
   -- what stands behind the numbers in the state
   abbrev behind : List ℕ
-  behind = d .lock .ring ++ (d .lock .phase ∷ [])
+  behind = d .lock .ring ++ (d .lock .course .phase ∷ [])
 
   abbrev rest : List ℕ
   rest = drop (length (detectorBytes d)) bytes
@@ -78,28 +80,30 @@ module _ (d : Detector) (bytes : List ℕ) (s : Sized d) where
       ap (λ (b : List ℕ). getD b (80 + i) 0) state-is
       ∙ ap (λ (n : ℕ). getD (packedOf (detectorNumbers d) ++ (behind ++ rest)) (n + i) 0) (sym long)
       ∙ getD-append-add (packedOf (detectorNumbers d)) (behind ++ rest) i 0
-      ∙ List·getD-append behind rest 0 i (omega (arith, l, length-append (d .lock .ring) (d .lock .phase ∷ []), s .ring))
+      ∙ List·getD-append behind rest 0 i (omega (arith, l, length-append (d .lock .ring) (d .lock .course .phase ∷ []), s .ring))
 
   symbol-at : (i : ℕ) → i < 15 → getD (keeping d bytes) (80 + i) 0 ≡ getD (d .lock .ring) i 0
-  symbol-at i l = behind-at i (omega arith) ∙ List·getD-append (d .lock .ring) (d .lock .phase ∷ []) 0 i (rw (s .ring) l)
+  symbol-at i l = behind-at i (omega arith) ∙ List·getD-append (d .lock .ring) (d .lock .course .phase ∷ []) 0 i (rw (s .ring) l)
 
-  phase-at : getD (keeping d bytes) 95 0 ≡ d .lock .phase
+  phase-at : getD (keeping d bytes) 95 0 ≡ d .lock .course .phase
   phase-at =
       behind-at 15 (lit< tt)
       ∙ ap (λ (n : ℕ). getD behind n 0) (sym (s .ring))
-      ∙ getD-append-seam (d .lock .ring) (d .lock .phase) [] 0
+      ∙ getD-append-seam (d .lock .ring) (d .lock .course .phase) [] 0
 
   found : detectorIn (keeping d bytes) ≡ d
   unfolding detectorIn
   found = λ i. record {
     lock = record {
       ring = (same-listed 15 _ _ symbol-at ∙ listed-again (d .lock .ring) 15 0 (sym (s .ring))) i;
-      next = number-back 0 (lit< tt) (s .next) i;
-      held = number-back 1 (lit< tt) (s .held) i;
-      taken = number-back 2 (lit< tt) (s .taken) i;
-      phase = phase-at i;
-      since = number-back 3 (lit< tt) (s .since) i;
-      stills = number-back 4 (lit< tt) (s .stills) i;
+      course = record {
+        next = number-back 0 (lit< tt) (s .next) i;
+        held = number-back 1 (lit< tt) (s .held) i;
+        taken = number-back 2 (lit< tt) (s .taken) i;
+        phase = phase-at i;
+        since = number-back 3 (lit< tt) (s .since) i;
+        stills = number-back 4 (lit< tt) (s .stills) i;
+      };
     };
     kept = record {
       held = (ap (λ (n : ℕ). not (eqb n 0)) (number-back 5 (lit< tt) (held-small (d .kept .held))) ∙ held-back (d .kept .held)) i;
@@ -143,11 +147,14 @@ reset-sized d = fresh-with (d .last)
 pub measured-sized : MeasuredSized
 measured-sized d first m z =
     written-sized (measuredNo d) _ d z
-    (λ none. advanced-sized d (seenMeasured (d .last) first m) (d .kept) (chosen.Field first) z (few-taken d none) (z .width) (z .height))
+    (λ none.
+    let few = few-taken (record { detector = d; store = [] }) (measured first m) none in
+    advanced-sized d (seenMeasured (d .last) first m) (d .kept) (chosen.Field first) z few (z .width) (z .height))
 
 pub push-sized : PushSized
+unfolding rising
 push-sized d store plane s first z = written-sized (pushNo d s (length plane) (length store)) _ d z (λ none.
-    let within = good-within s (first-passes 4 (goodShape s) _ (lit< tt) none) in
-    let few = few-taken d (rest-passes 7 _ _ (lit< tt) (rest-passes 6 _ _ (lit< tt) (rest-passes 4 (goodShape s) _ (lit< tt) none))) in
+    let within = good-within s (all-pass (pushTests d s (length plane) (length store)) tt none .0) in
+    let few = few-taken (record { detector = d; store = store }) (picture plane s first) none in
     advanced-sized d (seenPicture (d .kept) store plane s first) (keptAs s first) (chosen.Field first) z few
     (lt-of-le-of-lt (within .width-most) (lit< tt)) (lt-of-le-of-lt (within .height-most) (lit< tt)))

@@ -15,7 +15,7 @@ use Rattle.telecine.specs.declared.Measured.{Measured}
 use Rattle.telecine.specs.Detector.{freshDetector, resetOf, measuredDetector, pushDetector}
 use Rattle.telecine.specs.History.{framesOf, runOf, refusalTests}
 use Rattle.telecine.specs.History as calls
-use Rattle.filmdesk.specs.declared.GridNumbers.{GridNumbers}
+use Rattle.numbers.specs.declared.GridNumbers.{GridNumbers}
 use Rattle.filmdesk.specs.Kept.{detectorIn, keeping}
 use Rattle.filmdesk.specs.Film.{busyTests, newTests, stateTests, stateNo, predictStateTests, predictStateNo, measuredStateTests, pushStateTests}
 use Rattle.filmdesk.specs.Left.{lockedByte, foretoldByte}
@@ -25,12 +25,12 @@ use Rattle.filmdesk.specs.History.{Given, Call, Lent, numberIn, byteIn, 
 pub record Sized (d : Detector) : Type 0 where
   pub ring : length (d .lock .ring) ≡ 15
   pub symbols : (i : ℕ) → i < 15 → getD (d .lock .ring) i 0 < 256
-  pub next : d .lock .next < 2 ^ 64
-  pub held : d .lock .held < 2 ^ 64
-  pub taken : d .lock .taken < 2 ^ 64
-  pub phase : d .lock .phase < 256
-  pub since : d .lock .since < 2 ^ 64
-  pub stills : d .lock .stills < 2 ^ 64
+  pub next : d .lock .course .next < 2 ^ 64
+  pub held : d .lock .course .held < 2 ^ 64
+  pub taken : d .lock .course .taken < 2 ^ 64
+  pub phase : d .lock .course .phase < 256
+  pub since : d .lock .course .since < 2 ^ 64
+  pub stills : d .lock .course .stills < 2 ^ 64
   pub width : d .kept .width < 65536
   pub height : d .kept .height < 65536
 

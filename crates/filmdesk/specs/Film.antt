@@ -6,22 +6,23 @@ use mathlib.Core.List.{List, [], _∷_}
 use lib.Dec.{leb, eqb}
 use Rattle.laws.specs.Refusal.{lowest}
 use Rattle.plane.specs.declared.Shape.{Shape}
-use Rattle.plane.specs.Plane.{goodShape, planeBytes, unshifted}
+use Rattle.plane.specs.Plane.{goodShape, planeBytes, gridShape}
+use Rattle.numbers.specs.declared.GridNumbers.{GridNumbers}
+use Rattle.numbers.specs.Numbers.{gridNamed}
 use Rattle.block.specs.Answer.{countTests}
 use Rattle.telecine.specs.declared.Measured.{Measured}
 use Rattle.telecine.specs.declared.Measured.the-variants as measured
 use Rattle.telecine.specs.declared.Detector.{Detector}
 use Rattle.telecine.specs.Detector.{keptBytes, measuredTests}
-use Rattle.filmdesk.specs.declared.GridNumbers.{GridNumbers}
 use Rattle.filmdesk.specs.Kept.{stateBytes}
 
 -- the shape that the host's numbers give, as they are: codes are read as they stand
-abbrev pub gridNamed : GridNumbers → Shape
-gridNamed n = unshifted (n .width) (n .height) (n .depth) (n .stride)
+abbrev pub pictureNamed : GridNumbers → Shape
+pictureNamed n = gridShape (gridNamed n)
 
 -- 3: the parity names nothing; then as for `block::count`
 abbrev pub busyTests : GridNumbers → ℕ → ℕ → ℕ → List (ℕ × Bool)
-busyTests n bytes room parity = (3, leb parity 1) ∷ countTests (gridNamed n) bytes room
+busyTests n bytes room parity = (3, leb parity 1) ∷ countTests (pictureNamed n) bytes room
 
 abbrev pub busyNo : GridNumbers → ℕ → ℕ → ℕ → ℕ
 busyNo n bytes room parity = lowest (busyTests n bytes room parity)
@@ -61,8 +62,8 @@ measuredStateNo parity present state d = lowest (measuredStateTests parity prese
 abbrev pub pushStateTests : GridNumbers → ℕ → ℕ → ℕ → ℕ → Detector → List (ℕ × Bool)
 pushStateTests n parity bytes room state d =
     (3, leb parity 1)
-    ∷ (4, goodShape (gridNamed n))
-    ∷ (6, leb stateBytes state && leb (planeBytes (gridNamed n)) bytes && leb (keptBytes (d .kept)) room)
+    ∷ (4, goodShape (pictureNamed n))
+    ∷ (6, leb stateBytes state && leb (planeBytes (pictureNamed n)) bytes && leb (keptBytes (d .kept)) room)
     ∷ (7, leb (n .height * n .width) room)
     ∷ measuredTests d
 

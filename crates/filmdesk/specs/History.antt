@@ -14,7 +14,7 @@ use Rattle.field.specs.declared.Parity.the-variants.{Top, Bottom}
 use Rattle.plane.specs.declared.Layout.the-variants.{Planar}
 use Rattle.telecine.specs.declared.Measured.the-variants as measured
 use Rattle.telecine.specs.History as calls
-use Rattle.filmdesk.specs.declared.GridNumbers.{GridNumbers}
+use Rattle.numbers.specs.declared.GridNumbers.{GridNumbers}
 use Rattle.filmdesk.specs.Kept.{detectorIn}
 use Rattle.filmdesk.specs.Film.{newNo, stateNo, measuredNamed, measuredStateNo, pushStateNo}
 use Rattle.filmdesk.specs.Left.{newState, resetState, measuredState, measuredByte, pushedState, pushedStore, pushedByte}

@@ -31,23 +31,25 @@ chosenNamed n = cond (eqb n 0) chosen.Neither (chosen.Field (cond (eqb n 1) (par
 -- the numbers of a detector: of the lock, of the kept frame's shape, of the last parity
 abbrev pub detectorNumbers : Detector → List ℕ
 detectorNumbers d =
-    d .lock .next ∷ d .lock .held ∷ d .lock .taken ∷ d .lock .since ∷ d .lock .stills ∷ numberIf (d .kept .held) ∷ d .kept .width ∷ d .kept .height
-    ∷ firstRowOf (d .kept .first) ∷ chosenNumber (d .last) ∷ []
+    d .lock .course .next ∷ d .lock .course .held ∷ d .lock .course .taken ∷ d .lock .course .since ∷ d .lock .course .stills
+    ∷ numberIf (d .kept .held) ∷ d .kept .width ∷ d .kept .height ∷ firstRowOf (d .kept .first) ∷ chosenNumber (d .last) ∷ []
 
 abbrev pub detectorBytes : Detector → List ℕ
-detectorBytes d = packedOf (detectorNumbers d) ++ (d .lock .ring ++ (d .lock .phase ∷ []))
+detectorBytes d = packedOf (detectorNumbers d) ++ (d .lock .ring ++ (d .lock .course .phase ∷ []))
 
 -- The detector that bytes hold. A number too large for its place is cut to the place's size.
 unfoldable pub detectorIn : List ℕ → Detector
 detectorIn bytes = record {
   lock = record {
     ring = listed 15 (λ i. getD bytes (80 + i) 0);
-    next = numberAt bytes 0;
-    held = numberAt bytes 1;
-    taken = numberAt bytes 2;
-    phase = getD bytes 95 0;
-    since = numberAt bytes 3;
-    stills = numberAt bytes 4;
+    course = record {
+      next = numberAt bytes 0;
+      held = numberAt bytes 1;
+      taken = numberAt bytes 2;
+      phase = getD bytes 95 0;
+      since = numberAt bytes 3;
+      stills = numberAt bytes 4;
+    };
   };
   kept = record {
     held = not (eqb (numberAt bytes 5) 0);

@@ -7,9 +7,9 @@ use Rattle.field.specs.Field.{parityNamed, cadenceNumber}
 use Rattle.pulldown.specs.Lock.{lockedOf, predictCadence}
 use Rattle.telecine.specs.declared.Measured.{Measured}
 use Rattle.telecine.specs.Detector.{freshDetector, resetOf, measuredDetector, measuredCadence, pushDetector, pushCadence, pushStore}
-use Rattle.filmdesk.specs.declared.GridNumbers.{GridNumbers}
+use Rattle.numbers.specs.declared.GridNumbers.{GridNumbers}
 use Rattle.filmdesk.specs.Kept.{numberIf, detectorIn, keeping}
-use Rattle.filmdesk.specs.Film.{gridNamed}
+use Rattle.filmdesk.specs.Film.{pictureNamed}
 
 -- ---- new, reset, locked, predict
 abbrev pub newState : ℕ → List ℕ → List ℕ
@@ -34,11 +34,11 @@ measuredByte number state parity m byte = written number (cadenceNumber (measure
 -- ---- push
 abbrev pub pushedState : ℕ → List ℕ → List ℕ → List ℕ → GridNumbers → ℕ → List ℕ
 pushedState number state store plane n parity =
-    written number (keeping (pushDetector (detectorIn state) store plane (gridNamed n) (parityNamed parity)) state) state
+    written number (keeping (pushDetector (detectorIn state) store plane (pictureNamed n) (parityNamed parity)) state) state
 
 abbrev pub pushedStore : ℕ → List ℕ → List ℕ → List ℕ → GridNumbers → List ℕ
-pushedStore number state store plane n = written number (pushStore (detectorIn state) store plane (gridNamed n)) store
+pushedStore number state store plane n = written number (pushStore (detectorIn state) store plane (pictureNamed n)) store
 
 abbrev pub pushedByte : ℕ → List ℕ → List ℕ → List ℕ → GridNumbers → ℕ → ℕ → ℕ
 pushedByte number state store plane n parity byte =
-    written number (cadenceNumber (pushCadence (detectorIn state) store plane (gridNamed n) (parityNamed parity))) byte
+    written number (cadenceNumber (pushCadence (detectorIn state) store plane (pictureNamed n) (parityNamed parity))) byte

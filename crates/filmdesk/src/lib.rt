@@ -6,6 +6,7 @@ use block::Counted;
 use block::Counts;
 use field::Chosen;
 use field::Parity;
+use numbers::GridNumbers;
 use plane::Grid;
 use pulldown::Answer;
 use pulldown::Course;
@@ -14,19 +15,20 @@ use telecine::Detector;
 use telecine::Kept;
 use telecine::Measured;
 ghost use mathlib.Core.Path.{_≡_};
-ghost use Prim.Native.Nat.{_%_, _≤_};
+ghost use Prim.Native.Nat.{_≤_};
 ghost use mathlib.Core.List.{[], _∷_, _++_};
 ghost use lib.ListN.{length, replicate};
-ghost use Rattle.laws.specs.Refusal.{whenDone, written};
+ghost use Rattle.laws.specs.Refusal.{lowest, whenDone, written};
 ghost use Rattle.laws.specs.Rows.{over};
 ghost use Rattle.field.specs.Field.{firstRowOf, parityNamed, cadenceNumber};
+ghost use Rattle.plane.specs.Plane.{gridShape};
 ghost use Rattle.block.specs.Answer.{countsOf};
-ghost use Rattle.pulldown.specs.Lock.{answerNo, answerValues, lockWith};
+ghost use Rattle.pulldown.specs.Lock.{answerNo, answerValues};
 ghost use Rattle.telecine.specs.Detector.{nothingKept, freshDetector, resetOf, measuredNo, measuredDetector, measuredCadence, pushDetector, pushCadence, pushStore};
 ghost use Rattle.entry.specs.Entry.{cadencesNo, cadencesOf};
 ghost use Rattle.filmdesk.specs.Kept.{numberIf, detectorIn, detectorNumbers, keeping, chosenNumber, chosenNamed};
-ghost use Rattle.filmdesk.specs.Inner.{courseOf, detectorWith, gridOf};
-ghost use Rattle.filmdesk.specs.Film.{gridNamed, busyNo, newNo, stateNo, predictStateNo, measuredNamed, measuredStateNo, pushStateNo};
+ghost use Rattle.filmdesk.specs.Inner.{firstTests, detectorWith};
+ghost use Rattle.filmdesk.specs.Film.{pictureNamed, busyNo, newNo, stateNo, predictStateNo, measuredNamed, measuredStateNo, pushStateNo};
 ghost use Rattle.filmdesk.specs.Left.{newState, resetState, lockedByte, foretoldByte, measuredState, measuredByte, pushedState, pushedStore, pushedByte};
 
 const STATE_BYTES: usize = 96;
@@ -34,45 +36,9 @@ const STATE_BYTES: usize = 96;
 // Where the ring stands in it, behind the numbers; the phase is the last byte.
 const RING: usize = 80;
 
-// A picture's shape as the host gives it: sizes in samples, the stride in bytes. The numbers are wider
-// than a grid's own, so that none can wrap into the bounds; a call refuses those outside.
-#[repr(C)]
-pub struct GridNumbers {
-    pub width: u32,
-    pub height: u32,
-    // Bits of a sample.
-    pub depth: u32,
-    // Bytes from one row to the next.
-    pub stride: u32,
-}
-
-fn grid_of(numbers: GridNumbers) -> Grid
-    ensures { λ r. ⌜ r ≡ gridOf numbers ⌝ }
-{
-    let width = numbers::at_most_65535(numbers.width);
-    let height = numbers::at_most_65535(numbers.height);
-    let depth = numbers::at_most_255(numbers.depth);
-    Grid {
-        width: width,
-        height: height,
-        depth: depth,
-        stride: numbers.stride,
-    }
-}
-
 // ---- a detector in the state's bytes
 
-// 0 is top, and every other number bottom, so that all bytes are some detector.
-fn parity_in(number: u64) -> Parity
-    ensures { λ r. ⌜ r ≡ parityNamed number ⌝ }
-{
-    if number == 0 {
-        Parity::Top
-    } else {
-        Parity::Bottom
-    }
-}
-
+// Of a parity 0 is top, and every other number bottom, so that all bytes are some detector.
 fn chosen_in(number: u64) -> Chosen
     ensures { λ r. ⌜ r ≡ chosenNamed number ⌝ }
 {
@@ -84,12 +50,6 @@ fn chosen_in(number: u64) -> Chosen
     } else {
         Chosen::Field(Parity::Bottom)
     }
-}
-
-fn size_in(number: u64) -> u16
-    ensures { λ r. ⌜ r ≡ number % 65536 ⌝ }
-{
-    (number % 65536) as u16
 }
 
 fn ring_in(state: &[u8]) -> [u8; 15]
@@ -108,7 +68,7 @@ fn ring_in(state: &[u8]) -> [u8; 15]
 // Of a part whose length is known, no number has to be tested for where the bytes end.
 fn course_in(state: &[u8]) -> Course
     requires { ⌜ 96 ≤ length (now state) ⌝ }
-    ensures { λ r. ⌜ r ≡ courseOf (detectorIn (now (state .entry)) .lock) ⌝ }
+    ensures { λ r. ⌜ r ≡ detectorIn (now (state .entry)) .lock .course ⌝ }
 {
     let bytes = &state[0..STATE_BYTES];
     Course {
@@ -127,9 +87,9 @@ fn kept_in(state: &[u8]) -> Kept
 {
     let bytes = &state[0..STATE_BYTES];
     let held = packed::number_at(bytes, 5) != 0;
-    let width = size_in(packed::number_at(bytes, 6));
-    let height = size_in(packed::number_at(bytes, 7));
-    let first = parity_in(packed::number_at(bytes, 8));
+    let width = packed::size_in(packed::number_at(bytes, 6));
+    let height = packed::size_in(packed::number_at(bytes, 7));
+    let first = Parity::named(packed::number_at(bytes, 8));
     Kept {
         held: held,
         width: width,
@@ -146,29 +106,19 @@ fn last_in(state: &[u8]) -> Chosen
     chosen_in(packed::number_at(bytes, 9))
 }
 
-fn lock_with(ring: [u8; 15], course: Course) -> Lock
-    ensures { λ r. ⌜ r ≡ lockWith ring course ⌝ }
-{
-    Lock {
-        ring: ring,
-        next: course.next,
-        held: course.held,
-        taken: course.taken,
-        phase: course.phase,
-        since: course.since,
-        stills: course.stills,
-    }
-}
-
 fn detector_in(state: &[u8]) -> Detector
     requires { ⌜ 96 ≤ length (now state) ⌝ }
     ensures { λ r. ⌜ r ≡ detectorIn (now (state .entry)) ⌝ }
 {
-    let lock = lock_with(ring_in(state), course_in(state));
+    let ring = ring_in(state);
+    let course = course_in(state);
     let kept = kept_in(state);
     let last = last_in(state);
     Detector {
-        lock: lock,
+        lock: Lock {
+            ring: ring,
+            course: course,
+        },
         kept: kept,
         last: last,
     }
@@ -177,12 +127,15 @@ fn detector_in(state: &[u8]) -> Detector
 // As much of it as `locked`, `predict` and `reset` look at. The rest is made up.
 fn outline_in(state: &[u8]) -> Detector
     requires { ⌜ 96 ≤ length (now state) ⌝ }
-    ensures { λ r. ⌜ r ≡ detectorWith (replicate 15 0) (courseOf (detectorIn (now (state .entry)) .lock)) nothingKept (detectorIn (now (state .entry)) .last) ⌝ }
+    ensures { λ r. ⌜ r ≡ detectorWith (replicate 15 0) (detectorIn (now (state .entry)) .lock .course) nothingKept (detectorIn (now (state .entry)) .last) ⌝ }
 {
-    let lock = lock_with([0u8; 15], course_in(state));
+    let course = course_in(state);
     let led = last_in(state);
     Detector {
-        lock: lock,
+        lock: Lock {
+            ring: [0u8; 15],
+            course: course,
+        },
         kept: Kept {
             held: false,
             width: 0,
@@ -265,23 +218,18 @@ fn keep(state: &mut [u8], detector: Detector)
 {
     let lock = detector.lock;
     let ring = lock.ring;
+    let course = lock.course;
     let kept = detector.kept;
     let last = detector.last;
-    let course = Course {
-        next: lock.next,
-        held: lock.held,
-        taken: lock.taken,
-        phase: lock.phase,
-        since: lock.since,
-        stills: lock.stills,
-    };
     keep_apart(state, &ring, course, kept, last);
 }
 
-// Takes counts: the detector is read from the state, and written back where it is not full.
+// Takes counts: the detector is read from the state, and written back where it is not full. The ring stays
+// in one place, which `Detector::push_measured` would copy twice.
 fn push_counts(state: &mut [u8], first: Parity, measured: Measured) -> Answer
     requires { ⌜ 96 ≤ length (now state) ⌝ }
-    ensures { λ r. ⌜ (answerNo r ≡ measuredNo (detectorIn (now (state .entry)))) × (answerValues r ≡ whenDone (measuredNo (detectorIn (now (state .entry)))) (measuredCadence (detectorIn (now (state .entry))) first measured)) ⌝ }
+    ensures { λ r. ⌜ answerNo r ≡ measuredNo (detectorIn (now (state .entry))) ⌝ }
+    ensures { λ r. ⌜ answerValues r ≡ whenDone (measuredNo (detectorIn (now (state .entry)))) (measuredCadence (detectorIn (now (state .entry))) first measured) ⌝ }
     ensures { λ r. ⌜ now (state .exit) ≡ written (answerNo r) (keeping (measuredDetector (detectorIn (now (state .entry))) first measured) (now (state .entry))) (now (state .entry)) ⌝ }
 {
     let mut ring = ring_in(state);
@@ -289,12 +237,13 @@ fn push_counts(state: &mut [u8], first: Parity, measured: Measured) -> Answer
     let kept = kept_in(state);
     let last = last_in(state);
     let seen = telecine::seen_measured(last, first, measured);
-    let stepped = pulldown::push_apart(&mut ring, course, seen);
+    let stepped = telecine::step(&mut ring, course, last, first, seen);
     let after = stepped.course;
+    let led = stepped.last;
     let answer = stepped.answer;
     match answer {
         Answer::Gave(found) => {
-            keep_apart(state, &ring, after, kept, Chosen::Field(first));
+            keep_apart(state, &ring, after, kept, led);
             Answer::Gave(found)
         }
         Answer::Refused(no) => Answer::Refused(no),
@@ -319,6 +268,19 @@ fn measured_named(present: u8, busy: u64, total: u64, other_busy: u64, other_tot
     Measured::Counts(leading, trailing)
 }
 
+// What refuses a picture before the detector in the state is looked at.
+fn first_no(parity: u8, picture: Grid, given: usize) -> u8
+    ensures { λ r. ⌜ r ≡ lowest (firstTests parity (gridShape picture) given) ⌝ }
+{
+    let good = plane::good_shape(plane::shape_of(picture));
+    let input = refusal::test(refusal::SHORT_INPUT, STATE_BYTES <= given, refusal::DONE);
+    refusal::test(
+        refusal::OUTSIDE,
+        parity <= 1,
+        refusal::test(refusal::SHAPE, good, input),
+    )
+}
+
 // ---- the calls
 
 // Busy blocks and all blocks of a field, 0 top or 1 bottom, against the same field of the frame that
@@ -334,13 +296,18 @@ pub extern "C" fn desk_busy(
     total: &mut u64,
 ) -> u8
     ensures { λ r. ⌜ r ≡ busyNo grid (length (now (plane .entry))) (length (now (store .entry))) parity ⌝ }
-    ensures { λ r. ⌜ now (busy .exit) ≡ written r (countsOf (now (plane .entry)) (gridNamed grid) (now (store .entry)) (firstRowOf (parityNamed parity)) .busy) (now (busy .entry)) ⌝ }
-    ensures { λ r. ⌜ now (total .exit) ≡ written r (countsOf (now (plane .entry)) (gridNamed grid) (now (store .entry)) (firstRowOf (parityNamed parity)) .total) (now (total .entry)) ⌝ }
+    ensures { λ r. ⌜ now (busy .exit) ≡ written r (countsOf (now (plane .entry)) (pictureNamed grid) (now (store .entry)) (firstRowOf (parityNamed parity)) .busy) (now (busy .entry)) ⌝ }
+    ensures { λ r. ⌜ now (total .exit) ≡ written r (countsOf (now (plane .entry)) (pictureNamed grid) (now (store .entry)) (firstRowOf (parityNamed parity)) .total) (now (total .entry)) ⌝ }
 {
     if 1 < parity {
         return refusal::OUTSIDE;
     }
-    match block::count(plane, grid_of(grid), store, Parity::named(parity as u32)) {
+    match block::count(
+        plane,
+        numbers::grid_named(grid),
+        store,
+        Parity::named(parity as u64),
+    ) {
         Counted::Value(counts) => {
             *busy = counts.busy;
             *total = counts.total;
@@ -451,7 +418,7 @@ pub extern "C" fn desk_detector_push_measured(
         return refusal::SHORT_INPUT;
     }
     let measured = measured_named(present, busy, total, other_busy, other_total);
-    match push_counts(state, Parity::named(parity as u32), measured) {
+    match push_counts(state, Parity::named(parity as u64), measured) {
         Answer::Gave(found) => {
             let given = found.number();
             *cadence = given;
@@ -478,15 +445,13 @@ pub extern "C" fn desk_detector_push(
     ensures { λ r. ⌜ now (store .exit) ≡ pushedStore r (now (state .entry)) (now (store .entry)) (now (plane .entry)) grid ⌝ }
     ensures { λ r. ⌜ now (cadence .exit) ≡ pushedByte r (now (state .entry)) (now (store .entry)) (now (plane .entry)) grid parity (now (cadence .entry)) ⌝ }
 {
-    let named = parity <= 1;
-    let picture = grid_of(grid);
-    let good = plane::good_shape(plane::shape_of(picture));
-    let refused = refusal::lowest_of(named, good, true, STATE_BYTES <= state.len(), true, true);
+    let picture = numbers::grid_named(grid);
+    let refused = first_no(parity, picture, state.len());
     if refused != 0 {
         return refused;
     }
     let detector = detector_in(state);
-    let pushed = detector.push(plane, picture, Parity::named(parity as u32), store);
+    let pushed = detector.push(plane, picture, Parity::named(parity as u64), store);
     let after = pushed.detector;
     let answer = pushed.answer;
     match answer {

@@ -8,7 +8,7 @@ use native.Mathlib.Decide.{ℕ-discrete}
 use native.Mathlib.Nat.{add-zero, add-suc, zero-mul, suc-mul, one-mul, add-mul, mul-le-mul-right, le-trans, le-antisymm}
 use native.Mathlib.Numerals.{add-one}
 use native.Mathlib.Omega.{arith}
-use lib.ListN.{length, take, drop, getD, set, length-append, length-drop, length-set, drop-of-length-le, List·getD-append}
+use lib.ListN.{length, take, drop, getD, set, length-append, length-take, length-drop, length-set, drop-of-length-le, List·getD-append}
 use lib.Seq.{ext-getD, drop-cons, set-at, sets-eq, take-at, drop-at, drop-drop, getD-at, getD-append-add, length-take-le, getD-take, getD-drop}
 use Rattle.laws.specs.Rows.{listed, laid, over}
 
@@ -50,6 +50,21 @@ module _ {A : Type 0} where
 
   pub part-at : (l : List A) (start n x : ℕ) (d : A) → x < n → getD (take n (drop start l)) x d ≡ getD l (start + x) d
   part-at l start n x d h = getD-take n (drop start l) x d h ∙ getD-drop start l x d
+
+  -- one that is brought within its list
+  pub part-held :
+      (l : List A) (start n : ℕ) {from size : ℕ} (d : A) → from ≡ min start (length l) → size ≡ min n (length l - from) →
+      take (from + size - from) (drop from l) ≡ take n (drop start l)
+  part-held l start n {from} {size} d f s =
+      let span : from + size - from ≡ size = omega arith in
+      let long : length (take size (drop from l)) ≡ size = part-length l from size (omega arith) in
+      let asked : length (take n (drop start l)) ≡ size = length-take n (drop start l) ∙ rw length-drop (omega arith) in
+      rw span
+      (ext-getD d (take size (drop from l)) (take n (drop start l)) (long ∙ sym asked)
+      (λ x h.
+      let near : x < size = rw long at h in
+      let same : from ≡ start = omega arith in
+      part-at l from size x d near ∙ ap (λ (k : ℕ). getD l (k + x) d) same ∙ sym (part-at l start n x d (omega arith))))
 
   -- ---- lists one behind the other
   -- a list written behind another that was written at the front

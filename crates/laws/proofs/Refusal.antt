@@ -151,12 +151,16 @@ done-writes {A} {n} {x} y old z e = (z, written-done y old z (done-equal y z e))
 pub stays : {A : Type 0} {n : ℕ} (new old : A) → (n ≡ 0 → ⊥) → old ≡ written n new old
 stays {A} {n} new old refused = simp (ne-eqb n 0 refused)
 
-pub refusal-keeps : {A B : Type 0} {m n : ℕ} (y : B) (new old : A) → m ≡ n → [] ≡ whenDone n y → (m ≡ n) × (old ≡ written n new old)
-refusal-keeps {A} {B} {m} {n} y new old e none = (e, kept (eqb n 0) none)
+-- and so it does where the answer has no value
+pub none-keeps : {A B : Type 0} (n : ℕ) (y : B) → [] ≡ whenDone n y → (new old : A) → old ≡ written n new old
+none-keeps {A} {B} n y none new old = kept (eqb n 0) none
   where
     kept : (b : Bool) → [] ≡ cond b (y ∷ []) [] → old ≡ cond b new old
     kept true p = absurd (nil≢cons p)
     kept false p = refl
+
+pub refusal-keeps : {A B : Type 0} {m n : ℕ} (y : B) (new old : A) → m ≡ n → [] ≡ whenDone n y → (m ≡ n) × (old ≡ written n new old)
+refusal-keeps {A} {B} {m} {n} y new old e none = (e, none-keeps n y none new old)
 
 -- The same of an answer r that an arm knows by its case. `no` gives an answer's number and `values` its values; the other call's number and
 -- value are those of this one.
@@ -174,6 +178,23 @@ module _ {R A : Type 0} (no : R → ℕ) (values : R → List A) {r case : R} (k
   pub handed-refusal :
       {B : Type 0} {m : ℕ} (new old : B) → no case ≡ m → values case ≡ [] → no r ≡ n′ → values r ≡ whenDone n′ y′ → (m ≡ n) × (old ≡ written n new old)
   handed-refusal new old some-no no-value e v = refusal-keeps y new old (sym some-no ∙ number e) (sym no-value ∙ held v)
+
+-- ---- an answer r that tells the number n and the value y, where the contract speaks of r's own number
+pub record Tells {R A : Type 0} (no : R → ℕ) (values : R → List A) (r : R) (n : ℕ) (y : A) : Type 0 where
+  pub number-is : no r ≡ n
+  pub values-are : values r ≡ whenDone n y
+
+-- by the case that an arm knows
+module _ {R A : Type 0} {no : R → ℕ} {values : R → List A} {r case : R} {n : ℕ} {y : A} (h : Tells no values r n y) (known : r ≡ case) where
+  pub told-number : no case ≡ n
+  told-number = sym (ap no known) ∙ h .number-is
+
+  pub told-value : {x : A} → no case ≡ 0 → values case ≡ x ∷ [] → x ≡ y
+  told-value zero-no one-value = done-equal y (sym zero-no ∙ told-number) (sym one-value ∙ sym (ap values known) ∙ h .values-are)
+
+  pub told-nothing : values case ≡ [] → {B : Type 0} (new old : B) → old ≡ written (no case) new old
+  told-nothing no-value new old =
+      none-keeps (no case) y (sym no-value ∙ sym (ap values known) ∙ h .values-are ∙ ap (λ (k : ℕ). whenDone k y) (sym told-number)) new old
 
 -- a test that passed stands in front of the other call's
 pub number-behind :

@@ -128,7 +128,7 @@ pushed-good : (r : Reel) (stage : Stage) (store : List ℕ) (u : Push) → GoodR
 unfolding pushedOf
 pushed-good r stage store u g a = frames (eqb (numberIn (stateOf r store) u) 0)
   where
-    frames : (b : Bool) → GoodNext (cond b (record { reel = reelOf stage (r .pictured) (next (stateOf r store) (push u) .detector) (talliedIn (cadenceIn (stateOf r store) u) (r .tally)); said = Frame (r .detector .lock .taken) (cadenceIn (stateOf r store) u) (lockedOf (next (stateOf r store) (push u) .detector .lock)) }) (close r (Fault (numberIn (stateOf r store) u))))
+    frames : (b : Bool) → GoodNext (cond b (record { reel = reelOf stage (r .pictured) (next (stateOf r store) (push u) .detector) (talliedIn (cadenceIn (stateOf r store) u) (r .tally)); said = Frame (r .detector .lock .course .taken) (cadenceIn (stateOf r store) u) (lockedOf (next (stateOf r store) (push u) .detector .lock)) }) (close r (Fault (numberIn (stateOf r store) u))))
     frames true = record { fine = g .fine; at = a }
     frames false = closed r Quiet g
 

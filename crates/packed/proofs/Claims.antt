@@ -11,9 +11,9 @@ use Rattle.laws.specs.Rows.{over}
 use Rattle.laws.proofs.Claims.{lowest-says}
 use Rattle.laws.proofs.Lists.{length-listed, listed-at, length-laid, laid-at}
 use Rattle.laws.proofs.Sums.{same-terms}
+use Rattle.laws.proofs.Digits.{sum-of-digits}
 use Rattle.packed.specs.Packed.{eightBytes, packedOf, numberAt}
 use Rattle.packed.specs.Claims.{ReadsBack, PackedSize, PackSays}
-use Rattle.packed.proofs.General.{sum-of-digits}
 
 pub pack-says : PackSays
 unfolding rising

@@ -1,4 +1,3 @@
 -- Laws that the proofs of this crate share, and the claims.
-pub mod General
 pub mod Parts
 pub mod Claims

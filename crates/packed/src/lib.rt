@@ -1,15 +1,12 @@
 // Whole numbers in lent bytes, eight bytes each, low byte first: how the desk keeps a state between
 // calls.
 ghost use mathlib.Core.Path.{_≡_};
-ghost use Prim.Native.Nat.{_<_, _^_};
+ghost use Prim.Native.Nat.{_%_, _<_, _^_};
 ghost use lib.ListN.{length, getD};
 ghost use Rattle.laws.specs.Refusal.{written};
 ghost use Rattle.laws.specs.Rows.{over};
 ghost use Rattle.packed.specs.Packed.{eightBytes, packedOf, numberAt, packNo};
 ghost use Rattle.packed.specs.Inner.{twoBytes, fourBytes};
-
-// The lent bytes are too few for what is written.
-const SHORT_OUTPUT: u8 = 7;
 
 fn wide(byte: u8) -> u64
     ensures { λ r. ⌜ (r ≡ byte) × (r < 256) ⌝ }
@@ -47,6 +44,19 @@ pub fn number_at(bytes: &[u8], place: u16) -> u64
     four_at(bytes, start) + 4294967296 * four_at(bytes, start + 4)
 }
 
+// A number in a place of two bytes, and in one of one. One too large for its place is cut to it.
+pub fn size_in(number: u64) -> u16
+    ensures { λ r. ⌜ r ≡ number % 65536 ⌝ }
+{
+    (number % 65536) as u16
+}
+
+pub fn byte_in(number: u64) -> u8
+    ensures { λ r. ⌜ r ≡ number % 256 ⌝ }
+{
+    (number % 256) as u8
+}
+
 // A number into a place of just its eight bytes.
 fn write_number(to: &mut [u8], number: u64)
     requires { ⌜ length (now to) ≡ 8 ⌝ }
@@ -67,7 +77,7 @@ pub fn write_numbers(bytes: &mut [u8], numbers: &[u64]) -> u8
     ensures { λ r. ⌜ now (bytes .exit) ≡ written r (over (packedOf (now (numbers .entry))) (now (bytes .entry))) (now (bytes .entry)) ⌝ }
 {
     if bytes.len() / 8 < numbers.len() {
-        return SHORT_OUTPUT;
+        return refusal::SHORT_OUTPUT;
     }
     let mut k = 0;
     while k < numbers.len() {

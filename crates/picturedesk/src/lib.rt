@@ -31,7 +31,7 @@ fn chosen_named(code: u32) -> field::Chosen
     ensures { λ r. ⌜ r ≡ chosenNamed code ⌝ }
 {
     if code <= 1 {
-        field::Chosen::Field(field::Parity::named(code))
+        field::Chosen::Field(field::Parity::named(code as u64))
     } else {
         field::Chosen::Neither
     }

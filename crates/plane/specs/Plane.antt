@@ -80,9 +80,13 @@ biplanar Second = true
 abbrev pub shift : Layout → ℕ → ℕ
 shift layout depth = cond (biplanar layout && leb 9 depth) (16 - depth) 0
 
--- What a code is, in every crate: the number stored at a place, shifted, and otherwise read as it stands.
+-- the number stored at a place, shifted, and otherwise read as it stands
+abbrev pub wordOf : List ℕ → Shape → ℕ → ℕ → ℕ
+wordOf bytes s x y = storedAt bytes (s .depth) (startOf s x y) / 2 ^ shift (s .layout) (s .depth)
+
+-- What a code is, in every crate.
 unfoldable pub codeOf : List ℕ → Shape → ℕ → ℕ → ℕ
-codeOf bytes s x y = storedAt bytes (s .depth) (startOf s x y) / 2 ^ shift (s .layout) (s .depth)
+codeOf bytes s x y = wordOf bytes s x y
 
 -- ---- values
 

@@ -111,7 +111,7 @@ pub fn is_alone(layout: Layout) -> bool
     }
 }
 
-fn sample_bytes(depth: u32) -> usize
+pub fn sample_bytes(depth: u32) -> usize
     ensures { λ r. ⌜ (r ≡ sampleBytes depth) × (r ≤ 2) ⌝ }
 {
     if depth <= 8 { 1 } else { 2 }
@@ -247,25 +247,6 @@ pub fn code_at(plane: &[u8], s: Shape, x: u16, y: u16) -> u16
     stored_at(plane, s.depth, start_of(s, x, y)) >> shift_of(layout, s.depth)
 }
 
-// A code whose sample is known to stand in the plane, read with no test for the end.
-fn stored_inside(plane: &[u8], depth: u8, i: usize) -> u16
-    requires { ⌜ i + sampleBytes depth ≤ length (now plane) ⌝ }
-    ensures { λ r. ⌜ r ≡ storedAt (now (plane .entry)) depth i ⌝ }
-{
-    if depth <= 8 {
-        return wide(plane[i]);
-    }
-    wide(plane[i]) + 256 * wide(plane[i + 1])
-}
-
-fn code_inside(plane: &[u8], s: Shape, x: u16, y: u16) -> u16
-    requires { ⌜ (x < s .width) × (y < s .height) × (planeBytes s ≤ length (now plane)) ⌝ }
-    ensures { λ r. ⌜ r ≡ codeOf (now (plane .entry)) s x y ⌝ }
-{
-    let layout = s.layout;
-    stored_inside(plane, s.depth, start_of(s, x, y)) >> shift_of(layout, s.depth)
-}
-
 // The coordinate c - 65,544 brought into 0 .. size - 1.
 fn hold(size: u16, c: u32) -> u16
     ensures { λ r. ⌜ r ≡ held size (unbiased c) ⌝ }
@@ -355,7 +336,7 @@ pub fn code(plane: &[u8], s: Shape, x: i32, y: i32) -> Coded
     let inner = is_inside(x, s.width) & is_inside(y, s.height);
     let no = read_no(inner, s, plane.len());
     if no == 0 {
-        Coded::Value(code_inside(plane, s, x as u16, y as u16))
+        Coded::Value(code_at(plane, s, x as u16, y as u16))
     } else {
         Coded::Refused(no)
     }
@@ -379,7 +360,7 @@ pub fn planes_agree(a: Shape, b: Shape) -> bool
     (a.width == b.width) & (a.height == b.height) & (a.depth == b.depth)
 }
 
-fn half_of(n: u16) -> u16
+pub fn half_of(n: u16) -> u16
     ensures { λ r. ⌜ r ≡ half n ⌝ }
 {
     ((n as u32 + 1) / 2) as u16

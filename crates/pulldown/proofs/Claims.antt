@@ -22,7 +22,7 @@ use Rattle.pulldown.specs.Runs.{Frame, frameOf, stepOf, Meets, meets, ph
 use Rattle.pulldown.specs.Lock.{advanceOf, pushLock, lockOf}
 use Rattle.pulldown.specs.Claims.{Third, ThirdDemand, OnePhase, MeetsDecided, PhaseSays}
 use Rattle.pulldown.specs.Claims.{Contradicts, Runs, RunConsecutive, Locked, LockFrameSays, LockedSays, PredictSays, PushSays, PredictNo, AnswerSettled, CodeSeen}
-use Rattle.pulldown.proofs.Bools.{known, clash, and-left, and-right}
+use Rattle.laws.proofs.Bools.{known, clash, and-left, and-right}
 use Rattle.pulldown.proofs.Phases.{meets-of, meets-from, phase-is, phase-met, phase-none, no-phase, none-met, met-before}
 use Rattle.pulldown.proofs.Phases as phases
 use Rattle.pulldown.proofs.Holds.{Holds, holds-fresh, holds-next}
@@ -160,32 +160,32 @@ predict-no ahead =
     let z = done-or-refused (leb ahead 1000000) 10 (omega arith) in
     ((λ e. leb-false _ _ (z .0 .0 e), λ h. z .0 .1 (lt-leb _ _ h)), (λ e. leb-true _ _ (z .1 .0 e), λ h. z .1 .1 (le-leb _ _ h)))
 
-pub push-taken : (l : Lock) (s : Seen) → l .taken < 4000000000 → pushLock l s ≡ advanceOf l s
+pub push-taken : (l : Lock) (s : Seen) → l .course .taken < 4000000000 → pushLock l s ≡ advanceOf l s
 unfolding lowest
-push-taken l s h = rw (lt-ltb (l .taken) 4000000000 h)
+push-taken l s h = rw (lt-ltb (l .course .taken) 4000000000 h)
 
-pub push-refused : (l : Lock) (s : Seen) → 4000000000 ≤ l .taken → pushLock l s ≡ l
+pub push-refused : (l : Lock) (s : Seen) → 4000000000 ≤ l .course .taken → pushLock l s ≡ l
 unfolding lowest
-push-refused l s h = rw (le-ltb (l .taken) 4000000000 h)
+push-refused l s h = rw (le-ltb (l .course .taken) 4000000000 h)
 
-pub one-taken : (l : Lock) (s : Seen) → advanceOf l s .taken ≡ l .taken + 1
+pub one-taken : (l : Lock) (s : Seen) → advanceOf l s .course .taken ≡ l .course .taken + 1
 unfolding advanceOf
 one-taken l seen.NotComparable = refl
 one-taken l (seen.Symbol s) = refl
 
-all-taken : (seens : List Seen) → lockOf seens .taken ≡ min (length seens) 4000000000
+all-taken : (seens : List Seen) → lockOf seens .course .taken ≡ min (length seens) 4000000000
 all-taken [] = omega arith
 all-taken (s ∷ earlier) =
     let l = lockOf earlier in
     let t = all-taken earlier in
-    ⊎-elim (λ h. rw (push-taken l s (ltb-true _ _ h), one-taken l s) (omega (arith, ltb-true (l .taken) 4000000000 h)))
-    (λ h. rw (push-refused l s (ltb-false _ _ h)) (omega (arith, ltb-false (l .taken) 4000000000 h)))
-    (known (ltb (l .taken) 4000000000))
+    ⊎-elim (λ h. rw (push-taken l s (ltb-true _ _ h), one-taken l s) (omega (arith, ltb-true (l .course .taken) 4000000000 h)))
+    (λ h. rw (push-refused l s (ltb-false _ _ h)) (omega (arith, ltb-false (l .course .taken) 4000000000 h)))
+    (known (ltb (l .course .taken) 4000000000))
 
 pub push-says : PushSays
 unfolding lowest
 push-says earlier s =
-    let n = lockOf earlier .taken in
+    let n = lockOf earlier .course .taken in
     let z = done-or-refused (ltb n 4000000000) 9 (omega arith) in
     let t = all-taken earlier in
     record {
@@ -256,7 +256,7 @@ locked-says seens h =
     )
 
 pub foretold-by : (l : Lock) (seens : List Seen) (at : ℕ) → Holds l seens
-    → foretold (l .phase) (l .since) at ≡ foretold (phaseOf (runOf seens)) (lockFrame (runOf seens)) at
+    → foretold (l .course .phase) (l .course .since) at ≡ foretold (phaseOf (runOf seens)) (lockFrame (runOf seens)) at
 unfolding foretold
 foretold-by l seens at h =
     rw (h .phase) (⊎-elim (λ e. rw (h .since (ltb-true _ _ e))) (λ e. rw e) (known (ltb (phaseOf (runOf seens)) 5)))
@@ -264,5 +264,5 @@ foretold-by l seens at h =
 pub predict-says : PredictSays
 predict-says seens ahead h =
     let k = holds seens h in
-    let n : min (lockOf seens .taken) 4000000000 ≡ length seens = omega (arith, k .taken) in
+    let n : min (lockOf seens .course .taken) 4000000000 ≡ length seens = omega (arith, k .taken) in
     rw n (foretold-by (lockOf seens) seens (length seens + ahead) k)

@@ -46,7 +46,7 @@ module _ (codes : List ℕ) where
     unfolding seenBefore
     still-known h = record {
       lock = advanced ∙ rw (add-one, push-taken lock (seenBy (getD codes k 0)) (rw (← known .lock, known .count) few));
-      count = ap (λ (l : Lock). l .taken) left ∙ one-taken (lockWith ring c) (seenBy code) ∙ ap (λ (n : ℕ). n + 1) (known .count);
+      count = ap (λ (l : Lock). l .course .taken) left ∙ one-taken (lockWith ring c) (seenBy code) ∙ ap (λ (n : ℕ). n + 1) (known .count);
       next = h;
     }
 

@@ -11,7 +11,7 @@ use Rattle.pulldown.specs.declared.Symbol.the-variants.{Still, Moved, Re
 use Rattle.pulldown.specs.Symbols.{oneIf}
 use Rattle.pulldown.specs.Runs.{Frame, howMany, agrees}
 use Rattle.pulldown.specs.Lock.{window, candidateOf, lockedBy}
-use Rattle.pulldown.proofs.Bools.{known}
+use Rattle.laws.proofs.Bools.{known}
 use Rattle.pulldown.proofs.FirstPhase.{first-none}
 use Rattle.pulldown.proofs.Phases.{Agrees, agrees-from}
 

@@ -7,7 +7,7 @@ use mathlib.Core.Path.{_≡_, refl}
 use mathlib.Core.Logic.{_⊎_, inl, inr, ⊎-elim}
 use mathlib.Core.Bool.{Bool, true, false}
 use Rattle.pulldown.specs.Runs.{firstPhase}
-use Rattle.pulldown.proofs.Bools.{clash}
+use Rattle.laws.proofs.Bools.{clash}
 
 module _ (passes : ℕ → Bool) where
   -- none below p passes

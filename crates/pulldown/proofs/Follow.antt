@@ -15,7 +15,7 @@ use Rattle.pulldown.specs.Symbols.{sameSymbol, oneIf}
 use Rattle.pulldown.specs.Runs.{Frame, stepOf, stillOrExpected, howMany, stillsInARow, agrees, locksAt, meets}
 use Rattle.pulldown.specs.Runs.{phaseOf, lockFrame, contradicts, goOn}
 use Rattle.pulldown.specs.Lock.{candidateOf, lockedBy, phaseAfter}
-use Rattle.pulldown.proofs.Bools.{known, clash, and-left, and-right, and-fails}
+use Rattle.laws.proofs.Bools.{known, clash, and-left, and-right, and-fails}
 use Rattle.pulldown.proofs.FirstPhase.{found, first-is, first-none}
 use Rattle.pulldown.proofs.Phases.{agrees-from, locks-of, locks-agrees, locks-step, meets-at-lock, meets-on, On, meets-cases}
 use Rattle.pulldown.proofs.Phases.{same-phase, phase-is, phase-met, phase-none, no-phase, phase-of-none}

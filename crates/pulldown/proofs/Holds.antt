@@ -61,16 +61,16 @@ held-or-not ring at n held false = refl
 
 -- the frames that a lock holds
 abbrev pub windowOf : Lock → List Frame
-windowOf l = window (l .ring) ((l .next + 14) % 15) (l .taken - 1) (l .held)
+windowOf l = window (l .ring) ((l .course .next + 14) % 15) (l .course .taken - 1) (l .course .held)
 
 pub record Holds (l : Lock) (seens : List Seen) : Type 0 where
   pub long : length (l .ring) ≡ 15
-  pub next : l .next < 15
-  pub taken : l .taken ≡ length seens
+  pub next : l .course .next < 15
+  pub taken : l .course .taken ≡ length seens
   pub frames : windowOf l ≡ take 15 (runOf seens)
-  pub stills : l .stills ≡ min 12 (stillsInARow (runOf seens))
-  pub phase : l .phase ≡ phaseOf (runOf seens)
-  pub since : phaseOf (runOf seens) < 5 → l .since ≡ lockFrame (runOf seens)
+  pub stills : l .course .stills ≡ min 12 (stillsInARow (runOf seens))
+  pub phase : l .course .phase ≡ phaseOf (runOf seens)
+  pub since : phaseOf (runOf seens) < 5 → l .course .since ≡ lockFrame (runOf seens)
 
 pub holds-fresh : Holds freshLock []
 holds-fresh = record {
@@ -102,7 +102,7 @@ module _ (l : Lock) (s : Symbol) (seens : List Seen) (h : Holds l seens) where
   abbrev f : Frame
   f = frameOf (length seens) s
 
-  stills-with : stillsAfter (l .stills) s ≡ min 12 (stillsInARow (f ∷ run))
+  stills-with : stillsAfter (l .course .stills) s ≡ min 12 (stillsInARow (f ∷ run))
   stills-with = rw (h .stills) (go (sameSymbol s Still))
     where
       go : (b : Bool) → cond b (min 12 (min 12 (stillsInARow run) + 1)) 0 ≡ min 12 (cond b (suc (stillsInARow run)) 0)
@@ -114,22 +114,22 @@ module _ (l : Lock) (s : Symbol) (seens : List Seen) (h : Holds l seens) where
 
   frames-with : windowWith l s ≡ take 15 (f ∷ run)
   frames-with =
-      let at : place l ≡ l .next = omega (arith, h .next) in
-      let wrote = window-written (l .ring) (l .next) (l .taken) (l .held) s (h .long) (h .next) in
+      let at : place l ≡ l .course .next = omega (arith, h .next) in
+      let wrote = window-written (l .ring) (l .course .next) (l .course .taken) (l .course .held) s (h .long) (h .next) in
       rw (at, wrote, h .frames, h .taken, take-take 14 15 run (omega arith))
 
   frames-after : windowOf (withSymbol l s) ≡ take 15 (goOn f run)
   frames-after =
       let back : ((place l + 1) % 15 + 14) % 15 ≡ place l = omega arith in
-      let number : l .taken + 1 - 1 ≡ l .taken = omega arith in
-      let cut = held-or-not (ringWith l s) (place l) (l .taken) (heldWith l) (contradicts (phaseLeft l s) (frameOf (l .taken) s)) in
+      let number : l .course .taken + 1 - 1 ≡ l .course .taken = omega arith in
+      let cut = held-or-not (ringWith l s) (place l) (l .course .taken) (heldWith l) (contradicts (phaseLeft l s) (frameOf (l .course .taken) s)) in
       rw (back, number, cut, frames-with, left-is, h .taken) (follows f run .window)
 
-  phase-is : withSymbol l s .phase ≡ phaseOf (goOn f run)
+  phase-is : withSymbol l s .course .phase ≡ phaseOf (goOn f run)
   phase-is = rw (frames-with, left-is, h .taken) (follows f run .phase)
 
-  since-is : phaseOf (goOn f run) < 5 → withSymbol l s .since ≡ lockFrame (goOn f run)
-  since-is k = rw (left-is, h .taken) (follows f run .since (l .since) (h .since) k)
+  since-is : phaseOf (goOn f run) < 5 → withSymbol l s .course .since ≡ lockFrame (goOn f run)
+  since-is k = rw (left-is, h .taken) (follows f run .since (l .course .since) (h .since) k)
 
   holds-with : Holds (withSymbol l s) (seen.Symbol s ∷ seens)
   holds-with = record {

@@ -1,5 +1,4 @@
 -- Laws that the proofs of this crate share, and that later crates can cite.
-pub mod Bools
 pub mod FirstPhase
 pub mod Walk
 pub mod Phases

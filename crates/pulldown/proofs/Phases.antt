@@ -15,7 +15,7 @@ use Rattle.pulldown.specs.Symbols.{symbolNumber, sameSymbol}
 use Rattle.pulldown.specs.Table.{expectedAt}
 use Rattle.pulldown.specs.Runs.{Frame, stepOf, stillOrExpected, everyFrame, howMany, stillsInARow}
 use Rattle.pulldown.specs.Runs.{Meets, agrees, locksAt, meets, firstPhase, phaseOf}
-use Rattle.pulldown.proofs.Bools.{known, clash, and-left, and-right, and-both, or-cases, or-right}
+use Rattle.laws.proofs.Bools.{known, clash, and-left, and-right, and-both, or-cases, or-right}
 use Rattle.pulldown.proofs.FirstPhase.{found, first-is, first-none}
 
 -- ---- a window that agrees

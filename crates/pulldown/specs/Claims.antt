@@ -16,7 +16,7 @@ use Rattle.pulldown.specs.declared.Answer.{Answer}
 use Rattle.pulldown.specs.Table.{cadenceAt}
 use Rattle.pulldown.specs.Runs.{Frame, frameOf, stepOf, stillOrExpected, Meets, meets, phaseOf, lockFrame, runOf, foretold}
 use Rattle.pulldown.specs.Lock.{answerNo, answerValues, lockedOf, pushNo, pushCadence, pushLock, predictNo, predictCadence, lockOf}
-use Rattle.pulldown.specs.Codes.{codeOf, seenBy}
+use Rattle.pulldown.specs.Codes.{seenCode, seenBy}
 
 -- ---- demand 3
 
@@ -103,9 +103,9 @@ PredictSays =
 
 -- A push gives 9 exactly when 4,000,000,000 frames were taken since fresh or reset, and else 0. With 9 it hands back the old lock.
 pub record PushNumbers (earlier : List Seen) (s : Seen) : Type 0 where
-  pub refused : (pushNo (lockOf earlier) ≡ 9) ↔ (lockOf earlier .taken ≡ 4000000000)
-  pub done : (pushNo (lockOf earlier) ≡ 0) ↔ (lockOf earlier .taken < 4000000000)
-  pub taken : lockOf earlier .taken ≡ min (length earlier) 4000000000
+  pub refused : (pushNo (lockOf earlier) ≡ 9) ↔ (lockOf earlier .course .taken ≡ 4000000000)
+  pub done : (pushNo (lockOf earlier) ≡ 0) ↔ (lockOf earlier .course .taken < 4000000000)
+  pub taken : lockOf earlier .course .taken ≡ min (length earlier) 4000000000
   pub unchanged : pushNo (lockOf earlier) ≡ 9 → pushLock (lockOf earlier) s ≡ lockOf earlier
 
 abbrev pub PushSays : Type 0
@@ -121,4 +121,4 @@ AnswerSettled = (a b : Answer) → answerNo a ≡ answerNo b → answerValues a 
 
 -- The code of what was seen of a frame stands for just that.
 abbrev pub CodeSeen : Type 0
-CodeSeen = (s : Seen) → seenBy (codeOf s) ≡ s
+CodeSeen = (s : Seen) → seenBy (seenCode s) ≡ s

@@ -14,9 +14,9 @@ use Rattle.pulldown.specs.Symbols.{symbolNumber}
 use Rattle.pulldown.specs.Lock.{symbolAt, pushCadence, lockOf}
 
 -- the code of what was seen of a frame: the symbol's number, and 4 for a frame that cannot be compared
-abbrev pub codeOf : Seen → ℕ
-codeOf seen.NotComparable = 4
-codeOf (seen.Symbol s) = symbolNumber s
+abbrev pub seenCode : Seen → ℕ
+seenCode seen.NotComparable = 4
+seenCode (seen.Symbol s) = symbolNumber s
 
 -- what a code stands for
 abbrev pub seenBy : ℕ → Seen

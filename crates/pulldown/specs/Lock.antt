@@ -61,43 +61,40 @@ stillsAfter stills s = cond (sameSymbol s Still) (min 12 (stills + 1)) 0
 
 -- the place that a symbol takes, the ring with it, and how many of the ring's symbols are then of the run
 abbrev pub place : Lock → ℕ
-place l = l .next % 15
+place l = l .course .next % 15
 
 abbrev pub ringWith : Lock → Symbol → List ℕ
 ringWith l s = set (l .ring) (place l) (symbolNumber s)
 
 abbrev pub heldWith : Lock → ℕ
-heldWith l = min 15 (l .held + 1)
+heldWith l = min 15 (l .course .held + 1)
 
 abbrev pub windowWith : Lock → Symbol → List Frame
-windowWith l s = window (ringWith l s) (place l) (l .taken) (heldWith l)
+windowWith l s = window (ringWith l s) (place l) (l .course .taken) (heldWith l)
 
 -- the phase before a frame, unless that is the twelfth still in a row
 abbrev pub phaseLeft : Lock → Symbol → ℕ
-phaseLeft l s = cond (ltb (stillsAfter (l .stills) s) 12) (l .phase) 5
+phaseLeft l s = cond (ltb (stillsAfter (l .course .stills) s) 12) (l .course .phase) 5
 
 -- A symbol that contradicts leaves nothing in the window, not even itself.
 abbrev pub withSymbol : Lock → Symbol → Lock
 withSymbol l s = record {
   ring = ringWith l s;
-  next = (place l + 1) % 15;
-  held = cond (contradicts (phaseLeft l s) (frameOf (l .taken) s)) 0 (heldWith l);
-  taken = l .taken + 1;
-  phase = phaseAfter (windowWith l s) (phaseLeft l s) (frameOf (l .taken) s);
-  since = cond (ltb (phaseLeft l s) 5) (l .since) (l .taken);
-  stills = stillsAfter (l .stills) s;
+  course = record {
+    next = (place l + 1) % 15;
+    held = cond (contradicts (phaseLeft l s) (frameOf (l .course .taken) s)) 0 (heldWith l);
+    taken = l .course .taken + 1;
+    phase = phaseAfter (windowWith l s) (phaseLeft l s) (frameOf (l .course .taken) s);
+    since = cond (ltb (phaseLeft l s) 5) (l .course .since) (l .course .taken);
+    stills = stillsAfter (l .course .stills) s;
+  };
 }
 
 -- A frame that cannot be compared ends the run.
 abbrev pub withoutSymbol : Lock → Lock
 withoutSymbol l = record {
   ring = l .ring;
-  next = l .next;
-  held = 0;
-  taken = l .taken + 1;
-  phase = 5;
-  since = l .since;
-  stills = 0;
+  course = record { next = l .course .next; held = 0; taken = l .course .taken + 1; phase = 5; since = l .course .since; stills = 0 };
 }
 
 unfoldable pub advanceOf : Lock → Seen → Lock
@@ -107,23 +104,22 @@ advanceOf l (seen.Symbol s) = withSymbol l s
 -- ---- the calls
 
 abbrev pub freshLock : Lock
-freshLock = record { ring = replicate 15 0; next = 0; held = 0; taken = 0; phase = 5; since = 0; stills = 0 }
+freshLock = record { ring = replicate 15 0; course = record { next = 0; held = 0; taken = 0; phase = 5; since = 0; stills = 0 } }
 
 abbrev pub lockedOf : Lock → Bool
-lockedOf l = ltb (l .phase) 5
+lockedOf l = ltb (l .course .phase) 5
 
--- a lock by its ring and the rest of it
+-- a lock by its ring and its course
 abbrev pub lockWith : List ℕ → Course → Lock
-lockWith ring c =
-    record { ring = ring; next = c .next; held = c .held; taken = c .taken; phase = c .phase; since = c .since; stills = c .stills }
+lockWith ring c = record { ring = ring; course = c }
 
 -- 9: a push comes when 4,000,000,000 frames have been taken since fresh or reset
 abbrev pub pushNo : Lock → ℕ
-pushNo l = lowest ((9, ltb (l .taken) 4000000000) ∷ [])
+pushNo l = lowest ((9, ltb (l .course .taken) 4000000000) ∷ [])
 
 -- the cadence that a push gives
 abbrev pub pushCadence : Lock → Seen → Cadence
-pushCadence l s = cadenceBy (advanceOf l s .phase) (l .taken)
+pushCadence l s = cadenceBy (advanceOf l s .course .phase) (l .course .taken)
 
 -- the lock that a push hands back
 abbrev pub pushLock : Lock → Seen → Lock
@@ -135,7 +131,7 @@ predictNo ahead = lowest ((10, leb ahead 1000000) ∷ [])
 
 -- the cadence that `predict` gives; no history takes more than 4,000,000,000 frames
 abbrev pub predictCadence : Lock → ℕ → Cadence
-predictCadence l ahead = foretold (l .phase) (l .since) (min (l .taken) 4000000000 + ahead)
+predictCadence l ahead = foretold (l .course .phase) (l .course .since) (min (l .course .taken) 4000000000 + ahead)
 
 -- ---- histories
 

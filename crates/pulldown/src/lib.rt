@@ -16,7 +16,7 @@ ghost use Rattle.laws.specs.Refusal.{whenDone, written};
 ghost use Rattle.pulldown.specs.Symbols.{symbolOf, symbolNumber, sameSymbol, oneIf};
 ghost use Rattle.pulldown.specs.Runs.{frameOf, stepOf, stillOrExpected, agrees, contradicts, cadenceBy, foretold};
 ghost use Rattle.pulldown.specs.Lock.{answerNo, answerValues, symbolAt, window, candidateOf, lockedBy, stillsAfter, withSymbol, withoutSymbol, advanceOf, freshLock, lockedOf, lockWith, pushNo, pushCadence, pushLock, predictNo, predictCadence};
-ghost use Rattle.pulldown.specs.Codes.{codeOf, seenBy, cadencesOf, codesNo};
+ghost use Rattle.pulldown.specs.Codes.{seenCode, seenBy, cadencesOf, codesNo};
 ghost use Rattle.pulldown.specs.Inner.{withPhase, phaseIn};
 
 // A field moved where this part of its blocks is busy, or more, and never with fewer than so many.
@@ -43,7 +43,7 @@ const MOST_STILL: usize = 12;
 const NO_PHASE: u8 = 5;
 
 // How many frames are taken, and how far ahead is foretold; more is refused.
-const MOST_FRAMES: u64 = 4000000000;
+pub const MOST_FRAMES: u64 = 4000000000;
 
 const MOST_AHEAD: u64 = 1000000;
 
@@ -80,9 +80,9 @@ const BECOMES: [field::Cadence; 5] = [
     field::Cadence::Spanning,
 ];
 
-pub struct Lock {
-    // The last symbols as numbers, and the place that the next one takes.
-    pub ring: [u8; 15],
+// A lock without its ring.
+pub struct Course {
+    // The place in the ring that the next symbol takes.
     pub next: usize,
     // How many of the ring's newest symbols are of this run.
     pub held: usize,
@@ -96,14 +96,10 @@ pub struct Lock {
     pub stills: usize,
 }
 
-// A lock without its ring.
-pub struct Course {
-    pub next: usize,
-    pub held: usize,
-    pub taken: u64,
-    pub phase: u8,
-    pub since: u64,
-    pub stills: usize,
+pub struct Lock {
+    // The last symbols as numbers.
+    pub ring: [u8; 15],
+    pub course: Course,
 }
 
 pub enum Answer {
@@ -139,7 +135,7 @@ fn less(a: u64, b: u64) -> u64
     if a < b { 0 } else { a - b }
 }
 
-// One more, up to a most.
+// One more than n, and never more than `most`.
 fn one_more(n: usize, most: usize) -> usize
     ensures { λ r. ⌜ r ≡ min most (n + 1) ⌝ }
 {
@@ -462,10 +458,12 @@ fn take_seen(ring: &mut [u8; 15], course: Course, seen: Seen) -> Course
     }
 }
 
-// Takes a frame as `Lock::push` does, where the ring lies apart from the rest: it is changed in place,
-// and a refusal changes nothing.
+// Takes a frame, the ring in place: every push is this step. A refusal changes nothing. The cadence is
+// that of the phase which the frame leaves.
 pub fn push_apart(ring: &mut [u8; 15], course: Course, seen: Seen) -> Stepped
-    ensures { λ r. ⌜ (lockWith (now (ring .exit)) (r .course) ≡ pushLock (lockWith (now (ring .entry)) course) seen) × (answerNo (r .answer) ≡ pushNo (lockWith (now (ring .entry)) course)) × (answerValues (r .answer) ≡ whenDone (pushNo (lockWith (now (ring .entry)) course)) (pushCadence (lockWith (now (ring .entry)) course) seen)) ⌝ }
+    ensures { λ r. ⌜ lockWith (now (ring .exit)) (r .course) ≡ pushLock (lockWith (now (ring .entry)) course) seen ⌝ }
+    ensures { λ r. ⌜ answerNo (r .answer) ≡ pushNo (lockWith (now (ring .entry)) course) ⌝ }
+    ensures { λ r. ⌜ answerValues (r .answer) ≡ whenDone (pushNo (lockWith (now (ring .entry)) course)) (pushCadence (lockWith (now (ring .entry)) course) seen) ⌝ }
 {
     if MOST_FRAMES <= course.taken {
         return Stepped {
@@ -487,12 +485,14 @@ impl Lock {
     {
         Lock {
             ring: [0u8; 15],
-            next: 0,
-            held: 0,
-            taken: 0,
-            phase: NO_PHASE,
-            since: 0,
-            stills: 0,
+            course: Course {
+                next: 0,
+                held: 0,
+                taken: 0,
+                phase: NO_PHASE,
+                since: 0,
+                stills: 0,
+            },
         }
     }
 
@@ -505,33 +505,21 @@ impl Lock {
     pub fn locked(self) -> bool
         ensures { λ r. ⌜ r ≡ lockedOf self ⌝ }
     {
-        self.phase < NO_PHASE
+        let course = self.course;
+        course.phase < NO_PHASE
     }
 
-    // Takes a frame. The cadence is that of the phase which the frame leaves.
     pub fn push(self, seen: Seen) -> Pushed
         ensures { λ r. ⌜ (r .lock ≡ pushLock self seen) × (answerNo (r .answer) ≡ pushNo self) × (answerValues (r .answer) ≡ whenDone (pushNo self) (pushCadence self seen)) ⌝ }
     {
         let mut ring = self.ring;
-        let course = Course {
-            next: self.next,
-            held: self.held,
-            taken: self.taken,
-            phase: self.phase,
-            since: self.since,
-            stills: self.stills,
-        };
+        let course = self.course;
         let stepped = push_apart(&mut ring, course, seen);
         let after = stepped.course;
         let answer = stepped.answer;
         let lock = Lock {
             ring: ring,
-            next: after.next,
-            held: after.held,
-            taken: after.taken,
-            phase: after.phase,
-            since: after.since,
-            stills: after.stills,
+            course: after,
         };
         Pushed {
             lock: lock,
@@ -546,16 +534,17 @@ impl Lock {
         if MOST_AHEAD < ahead {
             return Answer::Refused(refusal::TOO_FAR_AHEAD);
         }
-        let at = smaller(self.taken, MOST_FRAMES) + ahead;
-        Answer::Gave(foretell(self.phase, self.since, at))
+        let course = self.course;
+        let at = smaller(course.taken, MOST_FRAMES) + ahead;
+        Answer::Gave(foretell(course.phase, course.since, at))
     }
 }
 
 // ---- frames by their codes
 
 // The number of a frame's symbol, and 4 for a frame that cannot be compared.
-pub fn code_of(seen: Seen) -> u8
-    ensures { λ r. ⌜ r ≡ codeOf seen ⌝ }
+pub fn seen_code(seen: Seen) -> u8
+    ensures { λ r. ⌜ r ≡ seenCode seen ⌝ }
 {
     match seen {
         Seen::NotComparable => 4,
@@ -563,8 +552,8 @@ pub fn code_of(seen: Seen) -> u8
     }
 }
 
-// Does as `take_symbol` does, and calls it not: with a second caller that would not be compiled into the
-// loop of `cadences_of`.
+// The step of `push_apart`, of a code and without its tests. It does what `take_symbol` does and does not
+// call it, since a function with a second caller would not be compiled into the loop of `cadences_of`.
 fn take_code(ring: &mut [u8; 15], course: Course, code: u8) -> Course
     requires { ⌜ (course .next < 15) × (course .taken < 4000000000) ⌝ }
     ensures { λ r. ⌜ (lockWith (now (ring .exit)) r ≡ advanceOf (lockWith (now (ring .entry)) course) (seenBy code)) × (r .next < 15) ⌝ }
@@ -590,15 +579,9 @@ pub fn cadences_of(codes: &mut [u8]) -> u8
     if 4000000000 < codes.len() {
         return refusal::TOO_MANY_FRAMES;
     }
-    let mut ring = [0u8; 15];
-    let mut course = Course {
-        next: 0,
-        held: 0,
-        taken: 0,
-        phase: NO_PHASE,
-        since: 0,
-        stills: 0,
-    };
+    let lock = Lock::new();
+    let mut ring = lock.ring;
+    let mut course = lock.course;
     let mut k = 0;
     while k < codes.len() {
         let after = take_code(&mut ring, course, codes[k]);

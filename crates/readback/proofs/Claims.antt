@@ -13,10 +13,10 @@ use Rattle.laws.proofs.Claims.{lowest-says}
 use Rattle.laws.proofs.Lists.{length-laid, laid-at}
 use Rattle.laws.proofs.Rows.{row-within}
 use Rattle.plane.specs.declared.Shape.{Shape}
-use Rattle.plane.specs.Plane.{sampleBytes, codeOf}
-use Rattle.readback.specs.Readback.{readbackTests, codeBytes, copiedRow, copiedOf}
+use Rattle.plane.specs.Plane.{sampleBytes, wordOf, codeOf}
+use Rattle.readback.specs.Readback.{readbackTests, wordBytes, copiedRow, copiedOf}
 use Rattle.readback.specs.Claims.{ReadbackSays, CopiedSize, CodesKept}
-use Rattle.readback.proofs.Rows.{length-code, length-copied}
+use Rattle.readback.proofs.Rows.{length-word, length-copied}
 
 pub readback-says : ReadbackSays
 unfolding rising
@@ -26,12 +26,12 @@ pub copied-size : CopiedSize
 unfolding copiedOf
 copied-size bytes s = length-laid (copiedRow bytes s) (s .width * sampleBytes (s .depth)) (length-copied bytes s) (s .height)
 
--- byte j of the code in column x of row y, in the copy
+-- byte j of the word in column x of row y, in the copy
 module _ (bytes old : List ℕ) (s : Shape) (x y : ℕ) (l : x < s .width) (h : y < s .height) where
   copied-byte :
       (j : ℕ) → j < sampleBytes (s .depth) →
       getD (over (copiedOf bytes s) old) (y * (s .width * sampleBytes (s .depth)) + (x * sampleBytes (s .depth) + j)) 0
-      ≡ getD (codeBytes (s .depth) (codeOf bytes s x y)) j 0
+      ≡ getD (wordBytes (s .depth) (wordOf bytes s x y)) j 0
   unfolding copiedOf copiedRow
   copied-byte j k =
       let size = sampleBytes (s .depth) in
@@ -42,15 +42,15 @@ module _ (bytes old : List ℕ) (s : Shape) (x y : ℕ) (l : x < s .width) (h : 
       rw (copied-size bytes s) (omega (arith, row-within y (s .height) row (s .height * row) h (le-refl (s .height * row)))) in
       List·getD-append (copiedOf bytes s) (drop (length (copiedOf bytes s)) old) 0 (y * row + column) inner
       ∙ laid-at (copiedRow bytes s) row (length-copied bytes s) (s .height) column y 0 in-row h
-      ∙ laid-at (λ x. codeBytes (s .depth) (codeOf bytes s x y)) size (λ x. length-code (s .depth) (codeOf bytes s x y)) (s .width) j x 0 k l
+      ∙ laid-at (λ x. wordBytes (s .depth) (wordOf bytes s x y)) size (λ x. length-word (s .depth) (wordOf bytes s x y)) (s .width) j x 0 k l
 
--- a code read from where its bytes stand
-code-read :
-    (byte : Bool) (list : List ℕ) (start code : ℕ) →
-    ((j : ℕ) → j < cond byte 1 2 → getD list (start + j) 0 ≡ getD (cond byte (code ∷ []) (code % 256 ∷ code / 256 ∷ [])) j 0) →
-    cond byte (getD list start 0) (getD list start 0 + 256 * getD list (start + 1) 0) ≡ code
-code-read true list start code h = ap (λ (i : ℕ). getD list i 0) (omega arith) ∙ h 0 (lit< tt)
-code-read false list start code h =
+-- a word read from where its bytes stand
+word-read :
+    (byte : Bool) (list : List ℕ) (start word : ℕ) →
+    ((j : ℕ) → j < cond byte 1 2 → getD list (start + j) 0 ≡ getD (cond byte (word ∷ []) (word % 256 ∷ word / 256 ∷ [])) j 0) →
+    cond byte (getD list start 0) (getD list start 0 + 256 * getD list (start + 1) 0) ≡ word
+word-read true list start word h = ap (λ (i : ℕ). getD list i 0) (omega arith) ∙ h 0 (lit< tt)
+word-read false list start word h =
     ap₂ (λ (low high : ℕ). low + 256 * high) (ap (λ (i : ℕ). getD list i 0) (omega arith) ∙ h 0 (lit< tt)) (h 1 (lit< tt)) ∙ omega arith
 
 pub codes-kept : CodesKept
@@ -60,5 +60,5 @@ codes-kept bytes old s x y fits deep l h =
     let row = s .width * size in
     let place : (j : ℕ) → y * row + (x * 1 + 0) * size + j ≡ y * row + (x * size + j) = λ j. omega arith in
     div-one _
-    ∙ code-read (leb (s .depth) 8) (over (copiedOf bytes s) old) (y * row + (x * 1 + 0) * size) (codeOf bytes s x y)
+    ∙ word-read (leb (s .depth) 8) (over (copiedOf bytes s) old) (y * row + (x * 1 + 0) * size) (wordOf bytes s x y)
     (λ j k. ap (λ (i : ℕ). getD (over (copiedOf bytes s) old) i 0) (place j) ∙ copied-byte bytes old s x y l h j k)

@@ -3,14 +3,13 @@ use Prim.Native.Nat.{ℕ}
 use mathlib.Core.Path.{_≡_, sym, ap, _∙_}
 use mathlib.Core.Bool.{Bool, true, _&&_, and-eq-true-iff}
 use mathlib.Core.List.{List}
-use lib.Dec.{lit<}
 use borrow.Author.Tests.{leb-true}
-use Rattle.laws.specs.Refusal.{written}
+use Rattle.laws.specs.Refusal.{rising, written}
 use Rattle.laws.specs.Rows.{over}
-use Rattle.laws.proofs.Refusal.{first-passes, rest-passes, written-done}
+use Rattle.laws.proofs.Refusal.{all-pass, written-done}
 use Rattle.plane.specs.declared.Shape.{Shape}
 use Rattle.readback.specs.declared.Readback.{Readback}
-use Rattle.readback.specs.Readback.{lumaShape, cbShape, crShape, crBytes, readbackNo, copiedOf}
+use Rattle.readback.specs.Readback.{lumaShape, cbShape, crShape, crBytes, readbackTests, readbackNo, copiedOf}
 use Rattle.readback.specs.Inner.{PlaneReady}
 
 -- the planes and outputs of a call
@@ -28,13 +27,12 @@ each-of-three a b c h =
 pub frame-passed :
     (r : Readback) (luma second third luma-room cb-room cr-room : ℕ) {no : ℕ} →
     no ≡ readbackNo r luma second third luma-room cb-room cr-room → no ≡ 0 → FrameReady r luma second third luma-room cb-room cr-room
+unfolding rising
 frame-passed r luma second third luma-room cb-room cr-room e done =
-    let zero-no : readbackNo r luma second third luma-room cb-room cr-room ≡ 0 = sym e ∙ done in
-    let behind-chroma = rest-passes 2 _ _ (lit< tt) (rest-passes 1 _ _ (lit< tt) zero-no) in
-    let behind-shapes = rest-passes 4 _ _ (lit< tt) behind-chroma in
-    let shapes = each-of-three _ _ _ (first-passes 4 _ _ (lit< tt) behind-chroma) in
-    let planes = each-of-three _ _ _ (first-passes 6 _ _ (lit< tt) behind-shapes) in
-    let rooms = each-of-three _ _ _ (first-passes 7 _ _ (lit< tt) (rest-passes 6 _ _ (lit< tt) behind-shapes)) in
+    let tests = all-pass (readbackTests r luma second third luma-room cb-room cr-room) tt (sym e ∙ done) in
+    let shapes = each-of-three _ _ _ (tests .1 .1 .0) in
+    let planes = each-of-three _ _ _ (tests .1 .1 .1 .0) in
+    let rooms = each-of-three _ _ _ (tests .1 .1 .1 .1 .0) in
     record {
       luma-ready = record { good = shapes .0; long = leb-true _ _ (planes .0); roomy = leb-true _ _ (rooms .0) };
       cb-ready = record { good = shapes .1; long = leb-true _ _ (planes .1); roomy = leb-true _ _ (rooms .1) };

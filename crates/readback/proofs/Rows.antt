@@ -1,4 +1,4 @@
--- Laws of rows: that the copy of a row, made by its kind, holds the plane's codes.
+-- Laws of rows: that the copy of a row, made by its kind, holds the plane's words.
 use Prim.Native.Nat.{ℕ, _+_, _*_, _/_, _%_, _^_, _<_}
 use mathlib.Core.Path.{_≡_, refl, sym, ap, ap₂, _∙_}
 use mathlib.Core.Bool.{Bool, true, false, cond}
@@ -13,11 +13,11 @@ use Rattle.laws.proofs.Lists.{part-at, same-laid, length-laid}
 use Rattle.plane.specs.declared.Shape.{Shape}
 use Rattle.plane.specs.declared.Layout.{Layout}
 use Rattle.plane.specs.declared.Layout.the-variants.{Planar, Luma, First, Second}
-use Rattle.plane.specs.Plane.{alone, components, component, sampleBytes, rowBytes, shift, codeOf}
+use Rattle.plane.specs.Plane.{alone, components, component, sampleBytes, rowBytes, shift, wordOf}
 use Rattle.plane.proofs.Places.{no-shift}
 use Rattle.readback.specs.declared.Kind.{Kind}
 use Rattle.readback.specs.declared.Kind.the-variants.{Byte, EverySecondByte, Pair, EverySecondPair}
-use Rattle.readback.specs.Readback.{codeBytes, copiedRow}
+use Rattle.readback.specs.Readback.{wordBytes, copiedRow}
 use Rattle.readback.specs.Inner.{kindBy, kindOf, stepOf, sizeOf, pairOf, copyIn}
 
 -- ---- how long rows are
@@ -43,16 +43,16 @@ size-by false false = refl
 pub copy-size : (s : Shape) → s .width * sampleBytes (s .depth) ≡ s .width * sizeOf (kindOf s)
 copy-size s = ap (λ (k : ℕ). s .width * k) (size-by (leb (s .depth) 8) (alone (s .layout)))
 
-pub length-code : (depth code : ℕ) → length (codeBytes depth code) ≡ sampleBytes depth
-length-code depth code = go (leb depth 8)
+pub length-word : (depth word : ℕ) → length (wordBytes depth word) ≡ sampleBytes depth
+length-word depth word = go (leb depth 8)
   where
-    go : (b : Bool) → length (cond b (code ∷ []) (code % 256 ∷ code / 256 ∷ [])) ≡ cond b 1 2
+    go : (b : Bool) → length (cond b (word ∷ []) (word % 256 ∷ word / 256 ∷ [])) ≡ cond b 1 2
     go true = refl
     go false = refl
 
 pub length-copied : (bytes : List ℕ) (s : Shape) (y : ℕ) → length (copiedRow bytes s y) ≡ s .width * sampleBytes (s .depth)
 unfolding copiedRow
-length-copied bytes s y = length-laid _ (sampleBytes (s .depth)) (λ x. length-code (s .depth) (codeOf bytes s x y)) (s .width)
+length-copied bytes s y = length-laid _ (sampleBytes (s .depth)) (λ x. length-word (s .depth) (wordOf bytes s x y)) (s .width)
 
 -- ---- what stands in them
 module _ (bytes : List ℕ) (start width x : ℕ) (l : x < width) where
@@ -91,14 +91,13 @@ module _ (bytes : List ℕ) (start width x : ℕ) (l : x < width) where
 column-copied :
     (bytes : List ℕ) (s : Shape) (x y : ℕ) → x < s .width →
     copyIn (kindOf s) (take (s .width * stepOf (kindOf s)) (drop (y * s .stride) bytes)) (component (s .layout)) (shift (s .layout) (s .depth)) x
-    ≡ codeBytes (s .depth) (codeOf bytes s x y)
-unfolding codeOf
+    ≡ wordBytes (s .depth) (wordOf bytes s x y)
 column-copied bytes s x y l = go (leb (s .depth) 8) refl
   where
     go :
         (b : Bool) → leb (s .depth) 8 ≡ b →
         copyIn (kindOf s) (take (s .width * stepOf (kindOf s)) (drop (y * s .stride) bytes)) (component (s .layout)) (shift (s .layout) (s .depth)) x
-        ≡ codeBytes (s .depth) (codeOf bytes s x y)
+        ≡ wordBytes (s .depth) (wordOf bytes s x y)
     go true e =
         let stands = no-shift (s .layout) (s .depth) (lt-leb 9 (s .depth) (omega (arith, leb-true (s .depth) 8 e))) in
         rw (e, stands, div-one) (byte-there bytes (y * s .stride) (s .width) x l (s .layout) 0)

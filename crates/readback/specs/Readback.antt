@@ -4,12 +4,15 @@ use Prim.Native.Nat.{ℕ, _*_, _/_, _%_}
 use mathlib.Core.Bool.{Bool, cond, _&&_}
 use mathlib.Core.List.{List, [], _∷_}
 use lib.Dec.{leb, eqb}
-use Rattle.laws.specs.Refusal.{lowest}
-use Rattle.laws.specs.Rows.{laid}
+use lib.ListN.{length}
+use denote.Ref.{RefT, now}
+use denote.Triple.Both.{Both}
+use Rattle.laws.specs.Refusal.{lowest, written}
+use Rattle.laws.specs.Rows.{laid, over}
 use Rattle.plane.specs.declared.Shape.{Shape}
 use Rattle.plane.specs.declared.Layout.{Layout}
 use Rattle.plane.specs.declared.Layout.the-variants.{Luma, First, Second}
-use Rattle.plane.specs.Plane.{goodShape, planeBytes, sampleBytes, codeOf, half}
+use Rattle.plane.specs.Plane.{goodShape, planeBytes, sampleBytes, wordOf, half}
 use Rattle.readback.specs.declared.Readback.{Readback}
 
 -- ---- the planes that were read back
@@ -58,16 +61,28 @@ readbackTests r luma second third luma-room cb-room cr-room =
 abbrev pub readbackNo : Readback → ℕ → ℕ → ℕ → ℕ → ℕ → ℕ → ℕ
 readbackNo r luma second third luma-room cb-room cr-room = lowest (readbackTests r luma second third luma-room cb-room cr-room)
 
+-- the same of what a call is lent: three planes, then three outputs
+abbrev pub readbackNoOf :
+    {A B C D E F : Type 0} → Readback → Both (RefT (List ℕ)) A → Both (RefT (List ℕ)) B → Both (RefT (List ℕ)) C → Both (RefT (List ℕ)) D
+    → Both (RefT (List ℕ)) E → Both (RefT (List ℕ)) F → ℕ
+readbackNoOf r luma second third out-luma out-cb out-cr =
+    readbackNo r (length (now (luma .entry))) (length (now (second .entry))) (length (now (third .entry))) (length (now (out-luma .entry)))
+    (length (now (out-cb .entry))) (length (now (out-cr .entry)))
+
 -- ---- the copy
 
--- a code as a plane stores it: one byte, or two with the low byte first
-abbrev pub codeBytes : ℕ → ℕ → List ℕ
-codeBytes depth code = cond (leb depth 8) (code ∷ []) (code % 256 ∷ code / 256 ∷ [])
+-- a word as a plane stores it: one byte, or two with the low byte first
+abbrev pub wordBytes : ℕ → ℕ → List ℕ
+wordBytes depth word = cond (leb depth 8) (word ∷ []) (word % 256 ∷ word / 256 ∷ [])
 
--- Readback drops padding, shifts codes above 8 bits right by 16 - depth, and separates shared chroma: the codes of the plane's own component, row
+-- Readback drops padding, shifts codes above 8 bits right by 16 - depth, and separates shared chroma: the words of the plane's own component, row
 -- by row.
 unfoldable pub copiedRow : List ℕ → Shape → ℕ → List ℕ
-copiedRow bytes s y = laid (s .width) (λ x. codeBytes (s .depth) (codeOf bytes s x y))
+copiedRow bytes s y = laid (s .width) (λ x. wordBytes (s .depth) (wordOf bytes s x y))
 
 unfoldable pub copiedOf : List ℕ → Shape → List ℕ
 copiedOf bytes s = laid (s .height) (copiedRow bytes s)
+
+-- what an output holds after a call that gets this number
+abbrev pub copiedAfter : ℕ → List ℕ → Shape → List ℕ → List ℕ
+copiedAfter number bytes s out = written number (over (copiedOf bytes s) out) out

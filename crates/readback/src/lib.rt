@@ -4,19 +4,17 @@
 // beside their pitches, the frame goes to three lent outputs, what is out of bounds is refused by
 // number, and judging stands apart from copying.
 //
-// A frame read back from a device: padding is dropped, codes in the high bits are brought down, and
+// A frame read back from a device: padding is dropped, words in the high bits are brought down, and
 // chroma that shares a plane is separated.
 ghost use mathlib.Core.Path.{_≡_};
 ghost use mathlib.Core.Bool.{cond, _&&_};
-ghost use mathlib.Core.List.{[], _∷_};
 ghost use Prim.Native.Nat.{_+_, _*_, _/_, _^_, _<_, _≤_};
 ghost use lib.Dec.{leb};
-ghost use lib.ListN.{length, getD, take, drop};
-ghost use Rattle.laws.specs.Refusal.{lowest, written};
+ghost use lib.ListN.{length, getD};
 ghost use Rattle.laws.specs.Rows.{laid, over};
 ghost use Rattle.plane.specs.declared.Layout.the-variants.{Luma};
 ghost use Rattle.plane.specs.Plane.{sampleBytes, goodShape, planeBytes, half};
-ghost use Rattle.readback.specs.Readback.{lumaShape, shared, cbShape, crShape, crBytes, packedBytes, readbackNo, copiedOf};
+ghost use Rattle.readback.specs.Readback.{lumaShape, shared, cbShape, crShape, crBytes, packedBytes, readbackNo, copiedOf, readbackNoOf, copiedAfter};
 ghost use Rattle.readback.specs.Inner.{kindOf, stepOf, copyIn, RowRoom, PlaneReady};
 ghost use Rattle.readback.specs.declared.Kind.the-variants.{Byte, EverySecondByte, Pair, EverySecondPair};
 use plane::Layout;
@@ -54,12 +52,6 @@ fn is_shared(about: Readback) -> bool
     about.planes == 2
 }
 
-fn half_of(n: u16) -> u16
-    ensures { λ r. ⌜ r ≡ half n ⌝ }
-{
-    ((n as u32 + 1) / 2) as u16
-}
-
 // A component's layout where chroma shares a plane, and that of a plane of its own.
 fn chroma_layout(about: Readback, lane: Layout) -> Layout
     ensures { λ r. ⌜ r ≡ cond (shared about) lane Luma ⌝ }
@@ -82,8 +74,8 @@ fn luma_shape(about: Readback) -> Shape
 fn cb_shape(about: Readback) -> Shape
     ensures { λ r. ⌜ r ≡ cbShape about ⌝ }
 {
-    let columns = half_of(about.width);
-    let rows = half_of(about.height);
+    let columns = plane::half_of(about.width);
+    let rows = plane::half_of(about.height);
     let layout = chroma_layout(about, Layout::First);
     Shape {
         width: columns,
@@ -107,8 +99,8 @@ fn cr_pitch(about: Readback) -> u32
 fn cr_shape(about: Readback) -> Shape
     ensures { λ r. ⌜ r ≡ crShape about ⌝ }
 {
-    let columns = half_of(about.width);
-    let rows = half_of(about.height);
+    let columns = plane::half_of(about.width);
+    let rows = plane::half_of(about.height);
     let pitch = cr_pitch(about);
     let layout = chroma_layout(about, Layout::Second);
     Shape {
@@ -122,17 +114,11 @@ fn cr_shape(about: Readback) -> Shape
 
 // ---- the number
 
-fn sample_bytes(depth: u8) -> usize
-    ensures { λ r. ⌜ (r ≡ sampleBytes depth) × (r ≤ 2) ⌝ }
-{
-    if depth <= 8 { 1 } else { 2 }
-}
-
 // A row without padding.
 fn packed_row(s: Shape) -> usize
     ensures { λ r. ⌜ (r ≡ s .width * sampleBytes (s .depth)) × (r ≤ 131070) ⌝ }
 {
-    (s.width as usize) * sample_bytes(s.depth)
+    (s.width as usize) * plane::sample_bytes(s.depth as u32)
 }
 
 fn packed_bytes(s: Shape) -> usize
@@ -146,6 +132,12 @@ fn cr_length(about: Readback, second: usize, third: usize) -> usize
     ensures { λ r. ⌜ r ≡ crBytes about second third ⌝ }
 {
     if is_shared(about) { second } else { third }
+}
+
+fn counts(planes: u8) -> bool
+    ensures { λ r. ⌜ r ≡ (leb 1 planes && leb planes 3) ⌝ }
+{
+    (1 <= planes) & (planes <= 3)
 }
 
 fn good_shapes(about: Readback) -> bool
@@ -173,29 +165,6 @@ fn outputs_hold(about: Readback, luma_room: usize, cb_room: usize, cr_room: usiz
         & (packed_bytes(cr_shape(about)) <= cr_room)
 }
 
-// The number of the first test that fails, and 0 where none does.
-fn lowest_of(count: bool, chroma: bool, shape: bool, short_input: bool, short_output: bool) -> u8
-    ensures { λ r. ⌜ r ≡ lowest ((1, count) ∷ (2, chroma) ∷ (4, shape) ∷ (6, «short_input») ∷ (7, «short_output») ∷ []) ⌝ }
-{
-    if !count {
-        return refusal::PLANE_COUNT;
-    }
-    if !chroma {
-        return refusal::ONLY_LUMA;
-    }
-    if !shape {
-        return refusal::SHAPE;
-    }
-    if !short_input {
-        return refusal::SHORT_INPUT;
-    }
-    if short_output {
-        refusal::DONE
-    } else {
-        refusal::SHORT_OUTPUT
-    }
-}
-
 // The number of `frame_of_readback`, from the lengths of what is lent: 1, 2, 4, 6 or 7.
 pub fn readback_no(
     about: Readback,
@@ -208,12 +177,25 @@ pub fn readback_no(
 ) -> u8
     ensures { λ r. ⌜ r ≡ readbackNo about luma second third «luma_room» «cb_room» «cr_room» ⌝ }
 {
-    lowest_of(
-        (1 <= about.planes) & (about.planes <= 3),
-        2 <= about.planes,
-        good_shapes(about),
-        planes_reach(about, luma, second, third),
-        outputs_hold(about, luma_room, cb_room, cr_room),
+    let good = good_shapes(about);
+    let reach = planes_reach(about, luma, second, third);
+    let hold = outputs_hold(about, luma_room, cb_room, cr_room);
+    refusal::test(
+        refusal::PLANE_COUNT,
+        counts(about.planes),
+        refusal::test(
+            refusal::ONLY_LUMA,
+            2 <= about.planes,
+            refusal::test(
+                refusal::SHAPE,
+                good,
+                refusal::test(
+                    refusal::SHORT_INPUT,
+                    reach,
+                    refusal::test(refusal::SHORT_OUTPUT, hold, refusal::DONE),
+                ),
+            ),
+        ),
     )
 }
 
@@ -226,7 +208,7 @@ fn wide(byte: u8) -> u16
 }
 
 // The number that two bytes of a row are, the low one first, shifted right.
-fn code_at(row: &[u8], i: usize, right: u16) -> u16
+fn word_at(row: &[u8], i: usize, right: u16) -> u16
     requires { ⌜ (i + 1 < length (now row)) × (right ≤ 7) ⌝ }
     ensures { λ r. ⌜ (r ≡ (getD (now (row .entry)) i 0 + 256 * getD (now (row .entry)) (i + 1) 0) / 2 ^ right) × (r < 65536) ⌝ }
 {
@@ -259,9 +241,9 @@ fn copy_pairs(to: &mut [u8], row: &[u8], width: usize, right: u16)
     let mut x = 0;
     while x < width {
         let i = x * 2;
-        let code = code_at(row, i, right);
-        to[i] = (code % 256) as u8;
-        to[i + 1] = (code / 256) as u8;
+        let word = word_at(row, i, right);
+        to[i] = (word % 256) as u8;
+        to[i + 1] = (word / 256) as u8;
         x += 1;
     }
 }
@@ -273,9 +255,9 @@ fn copy_every_second_pair(to: &mut [u8], row: &[u8], width: usize, lane: usize, 
     let mut x = 0;
     while x < width {
         let i = x * 2;
-        let code = code_at(row, (i + lane) * 2, right);
-        to[i] = (code % 256) as u8;
-        to[i + 1] = (code / 256) as u8;
+        let word = word_at(row, (i + lane) * 2, right);
+        to[i] = (word % 256) as u8;
+        to[i + 1] = (word / 256) as u8;
         x += 1;
     }
 }
@@ -323,14 +305,6 @@ fn step_of(kind: Kind) -> usize
     }
 }
 
-// The row of n bytes that starts at a place of the plane.
-fn row_at(plane: &[u8], start: usize, n: usize) -> &[u8]
-    requires { ⌜ start + n ≤ length (now plane) ⌝ }
-    ensures { λ r. ⌜ now r ≡ take n (drop start (now (plane .entry))) ⌝ }
-{
-    &plane[start..start + n]
-}
-
 // Each row of a plane, without its padding, behind the one above it. The kind is found once.
 fn copy_rows(out: &mut [u8], plane: &[u8], s: Shape)
     requires { ⌜ PlaneReady s (length (now plane)) (length (now out)) ⌝ }
@@ -348,7 +322,7 @@ fn copy_rows(out: &mut [u8], plane: &[u8], s: Shape)
     let mut y = 0;
     while y < height {
         let start = y * size;
-        let row = row_at(plane, y * stride, taken);
+        let row = copy::part(plane, y * stride, taken);
         copy_row(kind, &mut out[start..start + size], row, width, lane, right);
         y += 1;
     }
@@ -377,10 +351,10 @@ pub fn frame_of_readback(
     second: &[u8],
     third: &[u8],
 ) -> u8
-    ensures { λ r. ⌜ r ≡ readbackNo about (length (now (luma .entry))) (length (now (second .entry))) (length (now (third .entry))) (length (now («out_luma» .entry))) (length (now («out_cb» .entry))) (length (now («out_cr» .entry))) ⌝ }
-    ensures { λ r. ⌜ now («out_luma» .exit) ≡ written r (over (copiedOf (now (luma .entry)) (lumaShape about)) (now («out_luma» .entry))) (now («out_luma» .entry)) ⌝ }
-    ensures { λ r. ⌜ now («out_cb» .exit) ≡ written r (over (copiedOf (now (second .entry)) (cbShape about)) (now («out_cb» .entry))) (now («out_cb» .entry)) ⌝ }
-    ensures { λ r. ⌜ now («out_cr» .exit) ≡ written r (over (copiedOf (crBytes about (now (second .entry)) (now (third .entry))) (crShape about)) (now («out_cr» .entry))) (now («out_cr» .entry)) ⌝ }
+    ensures { λ r. ⌜ r ≡ readbackNoOf about luma second third «out_luma» «out_cb» «out_cr» ⌝ }
+    ensures { λ r. ⌜ now («out_luma» .exit) ≡ copiedAfter r (now (luma .entry)) (lumaShape about) (now («out_luma» .entry)) ⌝ }
+    ensures { λ r. ⌜ now («out_cb» .exit) ≡ copiedAfter r (now (second .entry)) (cbShape about) (now («out_cb» .entry)) ⌝ }
+    ensures { λ r. ⌜ now («out_cr» .exit) ≡ copiedAfter r (crBytes about (now (second .entry)) (now (third .entry))) (crShape about) (now («out_cr» .entry)) ⌝ }
 {
     let no = readback_no(
         about,
@@ -395,7 +369,6 @@ pub fn frame_of_readback(
         copy_rows(out_luma, luma, luma_shape(about));
         copy_rows(out_cb, second, cb_shape(about));
         copy_cr(out_cr, about, second, third);
-        return no;
     }
     no
 }

@@ -45,7 +45,7 @@ module _ (r : Reel) (stage : Stage) (store bytes : List ℕ) (u : Push) (more : 
   cadence = cadenceIn before u
 
   abbrev said : Said
-  said = Frame (r .detector .lock .taken) cadence (lockedOf (after .detector .lock))
+  said = Frame (r .detector .lock .course .taken) cadence (lockedOf (after .detector .lock))
 
   -- whatever the totals, the rest says what it should
   abbrev Rest : Type 0

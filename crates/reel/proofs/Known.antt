@@ -79,9 +79,9 @@ frame-known : (state : State) (t : Tally) (u : Push) (more : State → Tally →
     → Known (frame state t u more)
 frame-known state t u more e h = record { all = rw e (h .all) }
 
--- ---- a state after which at most so many frames come, and whose kept frame and store are those of a reel
+-- ---- a state after which at most `left` frames come, and whose kept frame and store are those of a reel
 record Small (state : State) (left : ℕ) : Type 0 where
-  few : state .detector .lock .taken + left ≤ 131070
+  few : state .detector .lock .course .taken + left ≤ 131070
   long : length (state .store) ≡ 16384
   kept : keptBytes (state .detector .kept) ≤ 16384
 
@@ -92,7 +92,7 @@ fewer-left n s h = record { few = omega (arith, s .few); long = s .long; kept = 
 module _ (state : State) (first : Parity) (m : Measured) (n : ℕ) (s : Small state (suc n)) where
   entry-taken : numberIn state (measured first m) ≡ 0
   unfolding lowest
-  entry-taken = rw (lt-ltb (state .detector .lock .taken) 4000000000 (omega (arith, s .few)))
+  entry-taken = rw (lt-ltb (state .detector .lock .course .taken) 4000000000 (omega (arith, s .few)))
 
   small-after-entry : Small (next state (push (measured first m))) n
   small-after-entry = record {
@@ -141,7 +141,7 @@ module _ (state : State) (p : Pictured) (u : List ℕ) (n : ℕ) (fits : Fits p)
         le-leb (planeBytes (gridShape (p .shape))) (length u) plane-fits,
         le-leb (keptBytes (state .detector .kept)) 16384 (s .kept),
         le-leb (p .shape .height * p .shape .width) 16384 frame-fits,
-        lt-ltb (state .detector .lock .taken) 4000000000 (omega (arith, s .few)),
+        lt-ltb (state .detector .lock .course .taken) 4000000000 (omega (arith, s .few)),
       )
 
   store-long : length (next state (push pushed) .store) ≡ 16384

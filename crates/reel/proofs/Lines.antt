@@ -15,7 +15,7 @@ use Rattle.plane.specs.Plane.{gridShape}
 use Rattle.pulldown.specs.Lock.{lockedOf}
 use Rattle.telecine.specs.History.{State, Push, picture, push, numberIn, cadenceIn, next, after, framesOf, taken}
 use Rattle.telecine.proofs.Claims.{third-demand, refusal-known, locked-says}
-use Rattle.telecine.proofs.Held.{any-held}
+use Rattle.telecine.proofs.Reached.{frames-known, any-reached}
 use Rattle.entry.specs.Entry.{wordAt, entryOf, pushIn}
 use Rattle.entry.proofs.Entries.{entry-within}
 use Rattle.reel.specs.declared.Pictured.{Pictured}
@@ -88,11 +88,11 @@ module _ (frames : ℕ → Push) where
       abbrev locked : Bool
       locked = lockedOf (next (reached k) (push (frames k)) .detector .lock)
 
-      demanded : Demanded frames k (reached k .detector .lock .taken) (cadenceIn (reached k) (frames k)) locked
+      demanded : Demanded frames k (reached k .detector .lock .course .taken) (cadenceIn (reached k) (frames k)) locked
       unfolding framesBefore
       demanded =
-          let number : reached k .detector .lock .taken ≡ framesOf (framesBefore frames k) =
-          rw all at (any-held store (framesBefore frames k) .lock .taken) in
+          let number : reached k .detector .lock .course .taken ≡ framesOf (framesBefore frames k) =
+          rw all at (frames-known (length store) (reached k) _ (any-reached store (framesBefore frames k))) in
           record {
             number = number ∙ frames-before k;
             before = frames-before k;

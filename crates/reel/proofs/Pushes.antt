@@ -37,7 +37,7 @@ module _ (r : Reel) (stage : Stage) (after : Detector) (n : ℕ) (cadence : Cade
       cond (eqb n 0)
       (record {
         reel = reelOf stage (r .pictured) after (talliedIn cadence (r .tally));
-        said = Frame (r .detector .lock .taken) cadence (lockedOf (after .lock));
+        said = Frame (r .detector .lock .course .taken) cadence (lockedOf (after .lock));
       })
       (close r (Fault n))
 

@@ -13,7 +13,7 @@ use Rattle.reel.specs.Machine.{reelOf, close, talliedIn}
 abbrev pub answeredAs : Reel → Stage → Detector → Answer → Next
 answeredAs r stage d (Gave c) = record {
   reel = reelOf stage (r .pictured) d (talliedIn c (r .tally));
-  said = Frame (r .detector .lock .taken) c (lockedOf (d .lock));
+  said = Frame (r .detector .lock .course .taken) c (lockedOf (d .lock));
 }
 answeredAs r stage d (Refused n) = close r (Fault n)
 

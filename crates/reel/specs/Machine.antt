@@ -76,7 +76,7 @@ pushedOf r stage store u =
     cond (eqb (numberIn (stateOf r store) u) 0)
     (record {
       reel = reelOf stage (r .pictured) (next (stateOf r store) (push u) .detector) (talliedIn (cadenceIn (stateOf r store) u) (r .tally));
-      said = Frame (r .detector .lock .taken) (cadenceIn (stateOf r store) u) (lockedOf (next (stateOf r store) (push u) .detector .lock));
+      said = Frame (r .detector .lock .course .taken) (cadenceIn (stateOf r store) u) (lockedOf (next (stateOf r store) (push u) .detector .lock));
     })
     (close r (Fault (numberIn (stateOf r store) u)))
 

@@ -75,7 +75,7 @@ judged tests more = cond (eqb (lowest tests) 0) more (Fault (lowest tests) ∷ [
 abbrev pub frame : State → Tally → Push → (State → Tally → List Said) → List Said
 frame state t u more =
     cond (eqb (numberIn state u) 0)
-    (Frame (state .detector .lock .taken) (cadenceIn state u) (lockedOf (next state (push u) .detector .lock))
+    (Frame (state .detector .lock .course .taken) (cadenceIn state u) (lockedOf (next state (push u) .detector .lock))
     ∷ more (next state (push u)) (tallied (cadenceIn state u) t))
     (Fault (numberIn state u) ∷ [])
 

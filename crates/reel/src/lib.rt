@@ -88,7 +88,7 @@ fn pictured_in(unit: &[u8]) -> Pictured
     ensures { λ r. ⌜ r ≡ picturedIn (now (unit .entry)) ⌝ }
 {
     let shape = shape_in(unit);
-    let first = Parity::named(word_at(unit, 8) as u32);
+    let first = Parity::named(word_at(unit, 8) as u64);
     Pictured {
         given: true,
         shape: shape,
@@ -129,21 +129,24 @@ fn picture_bytes(pictured: Pictured) -> u64
     (shape.height as u64) * (shape.stride as u64)
 }
 
-// What refuses a shape's numbers: 3 or 4.
 fn shape_no(shape: Grid, parity: u16) -> u8
     ensures { λ r. ⌜ r ≡ lowest ((3, leb parity 1) ∷ (4, goodShape (gridShape shape)) ∷ []) ⌝ }
 {
     let good = plane::good_shape(plane::shape_of(shape));
-    refusal::lowest_of(parity <= 1, good, true, true, true, true)
+    refusal::test(
+        OUTSIDE,
+        parity <= 1,
+        refusal::test(refusal::SHAPE, good, refusal::DONE),
+    )
 }
 
-// What refuses a count of pictures: 3 or 7.
 fn picture_count_no(pictured: Pictured, n: u16) -> u8
     ensures { λ r. ⌜ r ≡ lowest (pictureCountTests pictured n) ⌝ }
 {
     let none = n == 0;
     let small = picture_bytes(pictured) <= 16384;
-    refusal::lowest_of(none | pictured.given, true, true, true, none | small, true)
+    let output = refusal::test(refusal::SHORT_OUTPUT, none | small, refusal::DONE);
+    refusal::test(OUTSIDE, none | pictured.given, output)
 }
 
 fn one_more(n: u64) -> u64
@@ -263,6 +266,7 @@ impl Reel {
                 let pictured = self.pictured;
                 let old = self.detector;
                 let lock = old.lock;
+                let course = lock.course;
                 let detector = pushed.detector;
                 let tally = self.tally;
                 Next {
@@ -272,7 +276,7 @@ impl Reel {
                         detector: detector,
                         tally: tally.add(cadence),
                     },
-                    said: Said::Frame(lock.taken, cadence, detector.locked()),
+                    said: Said::Frame(course.taken, cadence, detector.locked()),
                 }
             }
             Answer::Refused(no) => self.close(Said::Fault(no)),

@@ -20,8 +20,8 @@ pub fn say_name(call: usize) {
     }
 }
 
-fn grid_numbers(answer: &[u8], k: u8) -> filmdesk::GridNumbers {
-    filmdesk::GridNumbers {
+fn grid_numbers(answer: &[u8], k: u8) -> numbers::GridNumbers {
+    numbers::GridNumbers {
         width: answers::word(answer, k),
         height: answers::word(answer, std::num::wrapping_add_u8(k, 1)),
         depth: answers::word(answer, std::num::wrapping_add_u8(k, 2)),

@@ -20,8 +20,8 @@ pub fn say_name(call: usize) {
     }
 }
 
-fn lines_numbers(answer: &[u8], k: u8) -> weavedesk::LinesNumbers {
-    weavedesk::LinesNumbers {
+fn grid_numbers(answer: &[u8], k: u8) -> numbers::GridNumbers {
+    numbers::GridNumbers {
         width: answers::word(answer, k),
         height: answers::word(answer, std::num::wrapping_add_u8(k, 1)),
         depth: answers::word(answer, std::num::wrapping_add_u8(k, 2)),
@@ -30,9 +30,9 @@ fn lines_numbers(answer: &[u8], k: u8) -> weavedesk::LinesNumbers {
 }
 
 fn field_numbers(answer: &[u8], k: u8) -> weavedesk::FieldNumbers {
-    let luma = lines_numbers(answer, k);
-    let cb = lines_numbers(answer, std::num::wrapping_add_u8(k, 4));
-    let cr = lines_numbers(answer, std::num::wrapping_add_u8(k, 8));
+    let luma = grid_numbers(answer, k);
+    let cb = grid_numbers(answer, std::num::wrapping_add_u8(k, 4));
+    let cr = grid_numbers(answer, std::num::wrapping_add_u8(k, 8));
     weavedesk::FieldNumbers {
         luma: luma,
         cb: cb,
@@ -104,9 +104,9 @@ fn weave(answer: &[u8]) -> bool {
 
 fn line_number(answer: &[u8]) -> bool {
     let found = weavedesk::desk_line_number(
-        lines_numbers(answer, 0),
+        grid_numbers(answer, 0),
         answers::number(answer, 4),
-        lines_numbers(answer, 5),
+        grid_numbers(answer, 5),
         answers::number(answer, 9),
         answers::word(answer, 10),
     );
@@ -116,9 +116,9 @@ fn line_number(answer: &[u8]) -> bool {
 fn woven_line_to(answer: &[u8], out: &mut [u8]) -> bool {
     let found = weavedesk::desk_woven_line(
         answers::bytes(answer, 10, 0),
-        lines_numbers(answer, 0),
+        grid_numbers(answer, 0),
         answers::bytes(answer, 10, 1),
-        lines_numbers(answer, 4),
+        grid_numbers(answer, 4),
         answers::word(answer, 8),
         out,
     );

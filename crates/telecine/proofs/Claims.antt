@@ -1,65 +1,58 @@
 -- The claims of specs/Claims.antt.
-use Prim.Native.Nat.{ℕ, zero, suc, _+_, min}
+use Prim.Native.Nat.{ℕ, zero, suc}
 use native.Mathlib.Omega.{arith}
-use mathlib.Core.Path.{_≡_, refl, ap, ap₂, _∙_}
+use mathlib.Core.Path.{_≡_, refl, sym, ap, ap₂, _∙_}
 use mathlib.Core.Bool.{Bool, true, false, cond}
 use mathlib.Core.List.{List, [], _∷_, _++_}
 use lib.Dec.{eqb}
 use lib.ListN.{length}
-use borrow.Author.Tests.{ltb-true, lt-ltb, ne-eqb}
+use borrow.Author.Tests.{ne-eqb}
 use Rattle.laws.specs.Refusal.{rising}
 use Rattle.laws.proofs.Claims.{lowest-says}
-use Rattle.pulldown.specs.declared.Symbol.{Symbol}
 use Rattle.pulldown.specs.declared.Seen.{Seen}
-use Rattle.pulldown.specs.declared.Seen.the-variants as seen
-use Rattle.pulldown.specs.Runs.{phaseOf, cadenceBy}
-use Rattle.pulldown.specs.Claims as lock
-use Rattle.pulldown.proofs.Claims.{third, foretold-by, answer-settled, phase-says}
+use Rattle.pulldown.specs.Lock.{lockOf}
+use Rattle.pulldown.specs.Lock as lock
+use Rattle.pulldown.proofs.Claims.{answer-settled}
 use Rattle.pulldown.proofs.Claims as lock-proofs
 use Rattle.telecine.specs.Detector.{measuredTests, pushTests}
 use Rattle.telecine.specs.History.{Push, picture, measured, Call, push, reset, State, next, after, numberOf, cadenceOf, lastPicture, lastParity, seenOf, seens, framesOf, runOf, refusalTests, refusalOf, taken}
-use Rattle.telecine.specs.Claims.{ThirdDemand, Contradicts, Runs, RunConsecutive, RefusalKnown, RefusalSays, PushSays, MeasuredSays, RefusedLeaves, RefusedCountsNothing}
+use Rattle.telecine.specs.Claims.{ThirdDemand, Runs, RunConsecutive, RefusalKnown, RefusalSays, PushSays, MeasuredSays, RefusedLeaves, RefusedCountsNothing}
 use Rattle.telecine.specs.Claims.{LockedSays, PredictSays, ResetForgets, ResetIsFresh, PushedSettled}
-use Rattle.telecine.proofs.Held.{number-known, cadence-known, any-held, few}
-use Rattle.telecine.proofs.Held as held
+use Rattle.telecine.proofs.Reached.{few-before, number-known, cadence-known, any-reached}
+use Rattle.telecine.proofs.Reached as reached
+
+-- ---- what a push gets
+pub refusal-known : RefusalKnown
+refusal-known store u earlier = number-known (length store) (after store earlier) (taken (length store) earlier) (any-reached store earlier) u
 
 -- ---- demand 3
 module _ (store : List ℕ) (u : Push) (calls : List Call) where
-  abbrev known : List Call
+  abbrev pub known : List Call
   known = taken (length store) calls
 
-  cadence-is : cadenceOf store u calls ≡ cadenceBy (phaseOf (runOf (push u ∷ known))) (framesOf known)
-  cadence-is = cadence-known (length store) (after store calls) known (any-held store calls) u
+  pub cadence-is : cadenceOf store u calls ≡ lock.pushCadence (lockOf (seens known)) (seenOf u known)
+  cadence-is = cadence-known (after store calls) known (any-reached store calls) u
 
 pub third-demand : ThirdDemand
-third-demand store u earlier e = rw (cadence-is store u earlier) (third _ _)
+third-demand store u earlier e =
+    let known = taken (length store) earlier in
+    rw (cadence-is store u earlier)
+    (lock-proofs.third-demand (seenOf u known) (seens known) (few-before (length store) u known (sym (refusal-known store u earlier) ∙ e)) .1)
 
 -- ---- runs
-module _ (u : Push) (earlier : List Call) where
-  same-contradiction : (s : Symbol) → seenOf u earlier ≡ seen.Symbol s → lock.Contradicts s (seens earlier) → Contradicts u earlier
-  same-contradiction s e c = record { symbol = s; compared = e; p = c .p; below = c .below; met = c .met; neither = c .neither }
-
-  contradicting : Contradicts u earlier → runOf (push u ∷ earlier) ≡ []
-  contradicting c =
-      rw (c .compared)
-      (lock-proofs.runs (c .symbol) (seens earlier) .contradicting (record { p = c .p; below = c .below; met = c .met; neither = c .neither }))
-
 pub runs : Runs
 runs u earlier = record {
   fresh = refl;
   anew = refl;
   not-comparable = λ e. rw e;
-  contradicting = contradicting u earlier;
-  longer = λ s e none. rw e (lock-proofs.runs s (seens earlier) .longer (λ c. none (same-contradiction u earlier s e c)));
+  contradicting = λ c. rw (c .compared) (lock-proofs.runs (c .symbol) (seens earlier) .contradicting (c .contradicting));
+  longer = λ s e none. rw e (lock-proofs.runs s (seens earlier) .longer (λ c. none (record { symbol = s; compared = e; contradicting = c })));
 }
 
 pub run-consecutive : RunConsecutive
 run-consecutive calls f earlier later e = lock-proofs.run-consecutive (seens calls) f earlier later e
 
 -- ---- refusals
-pub refusal-known : RefusalKnown
-refusal-known store u earlier = number-known (length store) (after store earlier) (taken (length store) earlier) (any-held store earlier) u
-
 pub refusal-says : RefusalSays
 unfolding rising
 refusal-says room (picture plane s first) earlier = lowest-says (refusalTests room (picture plane s first) earlier) tt
@@ -74,14 +67,14 @@ unfolding rising
 measured-says d = lowest-says (measuredTests d) tt
 
 pub refused-leaves : RefusedLeaves
-refused-leaves = held.refused-leaves
+refused-leaves = reached.refused-leaves
 
 one-call : (store : List ℕ) (u : Push) (earlier : List Call) (n : ℕ) → numberOf store u earlier ≡ n
     → after store earlier ≡ after store (taken (length store) earlier)
     → next (after store earlier) (push u) ≡ after store (cond (eqb n 0) (push u ∷ taken (length store) earlier) (taken (length store) earlier))
 one-call store u earlier zero e same = ap (λ (state : State). next state (push u)) same
 one-call store u earlier (suc n) e same =
-    rw (ne-eqb (suc n) 0 (omega arith)) (held.refused-leaves (after store earlier) u (λ z. omega arith) ∙ same)
+    rw (ne-eqb (suc n) 0 (omega arith)) (reached.refused-leaves (after store earlier) u (λ z. omega arith) ∙ same)
 
 pub refused-counts-nothing : RefusedCountsNothing
 refused-counts-nothing store [] = refl
@@ -93,18 +86,13 @@ refused-counts-nothing store (reset ∷ earlier) = ap (λ (state : State). next 
 -- ---- `locked` and `predict`
 pub locked-says : LockedSays
 locked-says store calls =
-    let run = runOf (taken (length store) calls) in
-    rw (any-held store calls .lock .phase) (
-      λ e. (phaseOf run, ltb-true _ _ e, phase-says run .0 (phaseOf run) (ltb-true _ _ e) .0 refl),
-      λ m. rw (phase-says run .0 (m .0) (m .1) .1 (m .2)) (lt-ltb (m .0) 5 (m .1)),
-    )
+    let h = any-reached store calls in
+    rw (h .lock) (lock-proofs.locked-says (seens (taken (length store) calls)) (h .few))
 
 pub predict-says : PredictSays
 predict-says store calls ahead =
-    let known = taken (length store) calls in
-    let h = any-held store calls .lock in
-    let n : min (after store calls .detector .lock .taken) 4000000000 ≡ framesOf known = omega (arith, h .taken, few (length store) calls) in
-    rw n (foretold-by (after store calls .detector .lock) (seens known) (framesOf known + ahead) h)
+    let h = any-reached store calls in
+    rw (h .lock) (lock-proofs.predict-says (seens (taken (length store) calls)) ahead (h .few))
 
 -- ---- resets
 
@@ -150,7 +138,7 @@ reset-forgets store other u later earlier before long parity =
     let b = later ++ (reset ∷ before) in
     let h = same-later (length other) earlier before (rw long at parity) later in (
       rw (refusal-known store u a, refusal-known other u b, long) (same-refusal (length other) u (taken (length other) a) (taken (length other) b) h),
-      rw (cadence-is store u a, cadence-is other u b, long, same-seens u (taken (length other) a) (taken (length other) b) h, h .seen),
+      rw (cadence-is store u a, cadence-is other u b, long, same-frame u (taken (length other) a) (taken (length other) b) h, h .seen),
     )
 
 pub reset-is-fresh : ResetIsFresh

@@ -1,5 +1,5 @@
 -- Laws that the proofs of this crate share, and that later crates can cite.
 pub mod Calls
 pub mod Stored
-pub mod Held
+pub mod Reached
 pub mod Claims

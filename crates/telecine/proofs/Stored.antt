@@ -17,7 +17,7 @@ use Rattle.field.specs.declared.Parity.the-variants as parity
 use Rattle.plane.specs.declared.Shape.{Shape}
 use Rattle.block.specs.Block.{keptOf, keptFrame, storedOf, rowsOf, fieldOf, busyField}
 use Rattle.block.proofs.Claims.{samples-settle}
-use Rattle.pulldown.proofs.Bools.{known, and-left, and-right}
+use Rattle.laws.proofs.Bools.{known, and-left, and-right}
 use Rattle.telecine.specs.declared.Kept.{Kept}
 use Rattle.telecine.specs.Detector.{nothingKept, sameParity, alike, symbolAgainst, seenPicture, keptAs, keptBytes}
 use Rattle.telecine.specs.History.{Last, none, last, seenAgainst}

@@ -5,7 +5,7 @@
 use Prim.Native.Nat.{ℕ, _+_, _<_}
 use mathlib.Core.Path.{_≡_}
 use mathlib.Core.Logic.{_↔_}
-use mathlib.Core.Bool.{true, false}
+use mathlib.Core.Bool.{true}
 use mathlib.Core.List.{List, [], _∷_, _++_}
 use lib.ListN.{length}
 use Rattle.laws.specs.Refusal.{Says}
@@ -13,13 +13,14 @@ use Rattle.field.specs.declared.Chosen.the-variants as chosen
 use Rattle.plane.specs.declared.Shape.{Shape}
 use Rattle.pulldown.specs.declared.Symbol.{Symbol}
 use Rattle.pulldown.specs.declared.Seen.the-variants as seen
-use Rattle.pulldown.specs.Runs.{Frame, frameOf, stillOrExpected, Meets, phaseOf, lockFrame, foretold}
+use Rattle.pulldown.specs.Runs.{Frame, frameOf, Meets, phaseOf, lockFrame, foretold}
 use Rattle.pulldown.specs.Lock.{answerNo, answerValues, lockedOf, predictCadence}
 use Rattle.pulldown.specs.Claims.{Third}
+use Rattle.pulldown.specs.Claims as lock
 use Rattle.telecine.specs.declared.Detector.{Detector}
 use Rattle.telecine.specs.declared.Pushed.{Pushed}
 use Rattle.telecine.specs.Detector.{freshDetector, resetOf, measuredTests, pushTests}
-use Rattle.telecine.specs.History.{Push, Call, push, reset, State, numberIn, next, after, numberOf, cadenceOf, lastParity, seenOf, framesOf, runOf, refusalTests, refusalOf, taken}
+use Rattle.telecine.specs.History.{Push, Call, push, reset, State, numberIn, next, after, numberOf, cadenceOf, lastParity, seenOf, seens, framesOf, runOf, refusalTests, refusalOf, taken}
 
 -- ---- demand 3
 
@@ -37,10 +38,7 @@ ThirdDemand =
 pub record Contradicts (u : Push) (earlier : List Call) : Type 0 where
   pub symbol : Symbol
   pub compared : seenOf u earlier ≡ seen.Symbol symbol
-  pub p : ℕ
-  pub below : p < 5
-  pub met : Meets p (runOf earlier)
-  pub neither : stillOrExpected p (frameOf (framesOf earlier) symbol) ≡ false
+  pub contradicting : lock.Contradicts symbol (seens earlier)
 
 -- A run starts fresh, after reset, after a frame that cannot be compared, or after a contradicting one. These two kinds belong to no run.
 -- Any other frame makes the run of its predecessor longer.

@@ -6,7 +6,7 @@ use mathlib.Core.Bool.{Bool, true, false, cond, not, _&&_}
 use mathlib.Core.List.{List, [], _∷_}
 use lib.Dec.{leb, ltb, eqb}
 use lib.ListN.{length}
-use Rattle.laws.specs.Refusal.{lowest, written}
+use Rattle.laws.specs.Refusal.{lowest, whenDone, written}
 use Rattle.laws.specs.Rows.{over}
 use Rattle.field.specs.declared.Cadence.{Cadence}
 use Rattle.field.specs.declared.Parity.{Parity}
@@ -20,6 +20,7 @@ use Rattle.block.specs.Block.{keptFrame, busyField, totalOf, rowsOf}
 use Rattle.pulldown.specs.declared.Symbol.{Symbol}
 use Rattle.pulldown.specs.declared.Seen.{Seen}
 use Rattle.pulldown.specs.declared.Seen.the-variants as seen
+use Rattle.pulldown.specs.declared.Lock.{Lock}
 use Rattle.pulldown.specs.Symbols.{symbolOf}
 use Rattle.pulldown.specs.Lock.{advanceOf, freshLock}
 use Rattle.pulldown.specs.Lock as lock
@@ -75,10 +76,14 @@ seenPicture k store plane s first = cond (comparable k s first) (seen.Symbol (sy
 
 -- 9: a push of either kind comes when the detector has taken 4,000,000,000 frames since fresh or reset
 abbrev pub measuredTests : Detector → List (ℕ × Bool)
-measuredTests d = (9, ltb (d .lock .taken) 4000000000) ∷ []
+measuredTests d = (9, ltb (d .lock .course .taken) 4000000000) ∷ []
 
 abbrev pub measuredNo : Detector → ℕ
 measuredNo d = lowest (measuredTests d)
+
+-- the last parity after a frame that `first` leads, by the lock before it
+abbrev pub lastAfter : Lock → Chosen → Parity → Chosen
+lastAfter l last first = written (lock.pushNo l) (chosen.Field first) last
 
 abbrev pub measuredCadence : Detector → Parity → Measured → Cadence
 measuredCadence d first m = lock.pushCadence (d .lock) (seenMeasured (d .last) first m)
@@ -107,6 +112,10 @@ pushNo d s bytes room = lowest (pushTests d s bytes room)
 
 abbrev pub pushCadence : Detector → List ℕ → List ℕ → Shape → Parity → Cadence
 pushCadence d store plane s first = lock.pushCadence (d .lock) (seenPicture (d .kept) store plane s first)
+
+-- the cadence where the picture is not refused
+abbrev pub pushValues : Detector → List ℕ → List ℕ → Shape → Parity → List Cadence
+pushValues d store plane s first = whenDone (pushNo d s (length plane) (length store)) (pushCadence d store plane s first)
 
 -- the kept frame's shape after a picture
 abbrev pub keptAs : Shape → Parity → Kept

@@ -7,23 +7,22 @@
 //
 // The detector of 2:3 pulldown: pictures with a lent store, counts that were measured elsewhere, resets.
 ghost use mathlib.Core.Path.{_≡_};
-ghost use mathlib.Core.Bool.{_&&_};
-ghost use mathlib.Core.List.{[], _∷_};
 ghost use Prim.Native.Nat.{_*_};
-ghost use lib.Dec.{leb};
 ghost use lib.ListN.{length};
-ghost use Rattle.laws.specs.Refusal.{lowest, whenDone};
+ghost use Rattle.laws.specs.Refusal.{whenDone};
 ghost use Rattle.field.specs.Field.{firstRowOf};
-ghost use Rattle.plane.specs.Plane.{goodShape, planeBytes, gridShape};
+ghost use Rattle.plane.specs.Plane.{gridShape};
 ghost use Rattle.block.specs.Answer.{countNo, countsOf};
-ghost use Rattle.pulldown.specs.Lock.{answerNo, answerValues, lockedOf, predictNo, predictCadence};
-ghost use Rattle.telecine.specs.Detector.{freshDetector, resetOf, sameParity, ledBy, seenMeasured, comparable, seenPicture, measuredNo, measuredCadence, measuredDetector, keptBytes, pushNo, pushCadence, pushDetector, pushStore};
+ghost use Rattle.pulldown.specs.Lock.{answerNo, answerValues, lockWith, lockedOf, pushLock, predictNo, predictCadence};
+ghost use Rattle.pulldown.specs.Lock as lock;
+ghost use Rattle.telecine.specs.Detector.{freshDetector, resetOf, sameParity, ledBy, seenMeasured, comparable, seenPicture, lastAfter, measuredNo, measuredCadence, measuredDetector, keptBytes, pushNo, pushValues, pushDetector, pushStore};
 use block::Counted;
 use block::Counts;
 use field::Chosen;
 use field::Parity;
 use plane::Grid;
 use pulldown::Answer;
+use pulldown::Course;
 use pulldown::Lock;
 use pulldown::Seen;
 
@@ -51,6 +50,13 @@ pub enum Measured {
 
 pub struct Pushed {
     pub detector: Detector,
+    pub answer: Answer,
+}
+
+// What a frame leaves of the detector, apart from the ring and the kept frame, and its answer.
+pub struct Stepped {
+    pub course: Course,
+    pub last: Chosen,
     pub answer: Answer,
 }
 
@@ -141,16 +147,48 @@ fn kept_bytes(kept: Kept) -> usize
     }
 }
 
-// What refuses a picture, apart from the number of frames: 4, 6 or 7.
-fn picture_no(kept: Kept, grid: Grid, bytes: usize, room: usize) -> u8
-    ensures { λ r. ⌜ r ≡ lowest ((4, goodShape (gridShape grid)) ∷ (6, leb (planeBytes (gridShape grid)) bytes && leb (keptBytes kept) room) ∷ (7, leb (grid .height * grid .width) room) ∷ []) ⌝ }
+// What refuses a picture.
+fn picture_no(detector: Detector, grid: Grid, bytes: usize, room: usize) -> u8
+    ensures { λ r. ⌜ r ≡ pushNo detector (gridShape grid) bytes room ⌝ }
 {
+    let lock = detector.lock;
+    let course = lock.course;
+    let few = course.taken < pulldown::MOST_FRAMES;
     let shape = plane::shape_of(grid);
     let good = plane::good_shape(shape);
     let long = plane::plane_bytes(shape) <= bytes;
+    let kept = detector.kept;
     let held = kept_bytes(kept) <= room;
     let fits = frame_bytes(grid.height, grid.width) <= room;
-    refusal::lowest_of(true, good, true, long & held, fits, true)
+    let full = refusal::test(refusal::TOO_MANY_FRAMES, few, refusal::DONE);
+    let output = refusal::test(refusal::SHORT_OUTPUT, fits, full);
+    let input = refusal::test(refusal::SHORT_INPUT, long & held, output);
+    refusal::test(refusal::SHAPE, good, input)
+}
+
+// Takes a frame of either kind, of which this was seen: every push is this step. The ring is changed in
+// place. A refusal changes nothing.
+pub fn step(ring: &mut [u8; 15], course: Course, last: Chosen, first: Parity, seen: Seen) -> Stepped
+    ensures { λ r. ⌜ lockWith (now (ring .exit)) (r .course) ≡ pushLock (lockWith (now (ring .entry)) course) seen ⌝ }
+    ensures { λ r. ⌜ r .last ≡ lastAfter (lockWith (now (ring .entry)) course) last first ⌝ }
+    ensures { λ r. ⌜ answerNo (r .answer) ≡ lock.pushNo (lockWith (now (ring .entry)) course) ⌝ }
+    ensures { λ r. ⌜ answerValues (r .answer) ≡ whenDone (lock.pushNo (lockWith (now (ring .entry)) course)) (lock.pushCadence (lockWith (now (ring .entry)) course) seen) ⌝ }
+{
+    if pulldown::MOST_FRAMES <= course.taken {
+        return Stepped {
+            course: course,
+            last: last,
+            answer: Answer::Refused(refusal::TOO_MANY_FRAMES),
+        };
+    }
+    let pushed = pulldown::push_apart(ring, course, seen);
+    let after = pushed.course;
+    let answer = pushed.answer;
+    Stepped {
+        course: after,
+        last: Chosen::Field(first),
+        answer: answer,
+    }
 }
 
 impl Detector {
@@ -204,73 +242,79 @@ impl Detector {
 
     // Takes counts. The kept frame stays.
     pub fn push_measured(self, first: Parity, measured: Measured) -> Pushed
-        ensures { λ r. ⌜ (r .detector ≡ measuredDetector self first measured) × (answerNo (r .answer) ≡ measuredNo self) × (answerValues (r .answer) ≡ whenDone (measuredNo self) (measuredCadence self first measured)) ⌝ }
+        ensures { λ r. ⌜ r .detector ≡ measuredDetector self first measured ⌝ }
+        ensures { λ r. ⌜ answerNo (r .answer) ≡ measuredNo self ⌝ }
+        ensures { λ r. ⌜ answerValues (r .answer) ≡ whenDone (measuredNo self) (measuredCadence self first measured) ⌝ }
     {
         let last = self.last;
-        let led = Chosen::Field(first);
+        let lock = self.lock;
+        let mut ring = lock.ring;
+        let course = lock.course;
         let kept = self.kept;
-        let old = self.lock;
-        let pushed = old.push(seen_measured(last, first, measured));
-        let answer = pushed.answer;
-        let lock = pushed.lock;
-        match answer {
-            Answer::Gave(cadence) => Pushed {
-                detector: Detector {
-                    lock: lock,
-                    kept: kept,
-                    last: led,
+        let stepped = step(
+            &mut ring,
+            course,
+            last,
+            first,
+            seen_measured(last, first, measured),
+        );
+        let after = stepped.course;
+        let led = stepped.last;
+        let answer = stepped.answer;
+        Pushed {
+            detector: Detector {
+                lock: Lock {
+                    ring: ring,
+                    course: after,
                 },
-                answer: Answer::Gave(cadence),
+                kept: kept,
+                last: led,
             },
-            Answer::Refused(no) => Pushed {
-                detector: self,
-                answer: Answer::Refused(no),
-            },
+            answer: answer,
         }
     }
 
     // Takes a picture: compares it with the frame that the store keeps, and then keeps it there. Words are
     // read as they stand: a biplanar luma deeper than 8 bits goes through readback first.
     pub fn push(self, plane: &[u8], grid: Grid, first: Parity, store: &mut [u8]) -> Pushed
-        ensures { λ r. ⌜ (r .detector ≡ pushDetector self (now (store .entry)) (now (plane .entry)) (gridShape grid) first)
-            × (answerNo (r .answer) ≡ pushNo self (gridShape grid) (length (now (plane .entry))) (length (now (store .entry))))
-            × (answerValues (r .answer) ≡ whenDone (pushNo self (gridShape grid) (length (now (plane .entry))) (length (now (store .entry)))) (pushCadence self (now (store .entry)) (now (plane .entry)) (gridShape grid) first))
-            × (now (store .exit) ≡ pushStore self (now (store .entry)) (now (plane .entry)) (gridShape grid)) ⌝ }
+        ensures { λ r. ⌜ r .detector ≡ pushDetector self (now (store .entry)) (now (plane .entry)) (gridShape grid) first ⌝ }
+        ensures { λ r. ⌜ answerNo (r .answer) ≡ pushNo self (gridShape grid) (length (now (plane .entry))) (length (now (store .entry))) ⌝ }
+        ensures { λ r. ⌜ answerValues (r .answer) ≡ pushValues self (now (store .entry)) (now (plane .entry)) (gridShape grid) first ⌝ }
+        ensures { λ r. ⌜ now (store .exit) ≡ pushStore self (now (store .entry)) (now (plane .entry)) (gridShape grid) ⌝ }
     {
-        let kept = self.kept;
-        let no = picture_no(kept, grid, plane.len(), store.len());
+        let no = picture_no(self, grid, plane.len(), store.len());
         if no != 0 {
             return Pushed {
                 detector: self,
                 answer: Answer::Refused(no),
             };
         }
+        let kept = self.kept;
         let seen = seen_picture(kept, store, plane, grid, first);
-        let old = self.lock;
-        let pushed = old.push(seen);
-        let answer = pushed.answer;
-        let lock = pushed.lock;
-        match answer {
-            Answer::Gave(cadence) => {
-                block::keep(store, plane, grid);
-                Pushed {
-                    detector: Detector {
-                        lock: lock,
-                        kept: Kept {
-                            held: true,
-                            width: grid.width,
-                            height: grid.height,
-                            first: first,
-                        },
-                        last: Chosen::Field(first),
-                    },
-                    answer: Answer::Gave(cadence),
-                }
-            }
-            Answer::Refused(full) => Pushed {
-                detector: self,
-                answer: Answer::Refused(full),
+        let last = self.last;
+        let lock = self.lock;
+        let mut ring = lock.ring;
+        let course = lock.course;
+        let stepped = step(&mut ring, course, last, first, seen);
+        let after = stepped.course;
+        let leading = stepped.last;
+        let answer = stepped.answer;
+        block::keep(store, plane, grid);
+        Pushed {
+            detector: Detector {
+                lock: Lock {
+                    ring: ring,
+                    course: after,
+                },
+                kept: Kept {
+                    held: true,
+                    width: grid.width,
+                    height: grid.height,
+                    first: first,
+                },
+                last: leading,
             },
+            answer: answer,
         }
     }
 }

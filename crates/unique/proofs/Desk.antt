@@ -19,12 +19,6 @@ use Rattle.desk.proofs.filters.desk_sample.Kinds as desk-sample-kinds
 use Rattle.desk.proofs.filters.desk_sample.Reads as desk-sample
 use Rattle.desk.proofs.filters.desk_plane.Kinds as desk-plane-kinds
 use Rattle.desk.proofs.filters.desk_plane.Reads as desk-plane
-use Rattle.desk.proofs.planes.at_most_65535.Kinds as at-most-65535-kinds
-use Rattle.desk.proofs.planes.at_most_65535.Reads as at-most-65535
-use Rattle.desk.proofs.planes.at_most_255.Kinds as at-most-255-kinds
-use Rattle.desk.proofs.planes.at_most_255.Reads as at-most-255
-use Rattle.desk.proofs.planes.shape_named.Kinds as shape-named-kinds
-use Rattle.desk.proofs.planes.shape_named.Reads as shape-named
 use Rattle.desk.proofs.planes.desk_code.Kinds as desk-code-kinds
 use Rattle.desk.proofs.planes.desk_code.Reads as desk-code
 use Rattle.desk.proofs.planes.desk_at.Kinds as desk-at-kinds
@@ -75,15 +69,6 @@ pub desk-plane-once : OneAnswer 4 desk-plane-kinds.ps desk-plane-kinds.r desk-pl
 desk-plane-once =
     once 4 desk-plane-kinds.ps desk-plane-kinds.r desk-plane.Post (λ κs a x y s t p q. same (p .0) (q .0))
     (λ κs a x u v p q. refl and refl and refl and refl and refl and refl and refl and refl and same (p .1) (q .1) and refl)
-
-pub at-most-65535-once : OneAnswer 0 at-most-65535-kinds.ps at-most-65535-kinds.r at-most-65535.Post
-at-most-65535-once κs a x y u v p q = (same p q, refl)
-
-pub at-most-255-once : OneAnswer 0 at-most-255-kinds.ps at-most-255-kinds.r at-most-255.Post
-at-most-255-once κs a x y u v p q = (same p q, refl)
-
-pub shape-named-once : OneAnswer 0 shape-named-kinds.ps shape-named-kinds.r shape-named.Post
-shape-named-once κs a x y u v p q = (same p q, refl)
 
 pub desk-code-once : OneAnswer 2 desk-code-kinds.ps desk-code-kinds.r desk-code.Post
 desk-code-once =

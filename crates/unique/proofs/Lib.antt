@@ -14,6 +14,7 @@ pub mod Filmdesk
 pub mod Filter
 pub mod Float
 pub mod Listing
+pub mod Numbers
 pub mod Packed
 pub mod Pages
 pub mod Picture
@@ -22,6 +23,7 @@ pub mod Plane
 pub mod Pulldown
 pub mod Readback
 pub mod Reel
+pub mod Refusal
 pub mod Samples
 pub mod Scanline
 pub mod Telecine

@@ -9,6 +9,8 @@ use Rattle.plane.proofs.is_biplanar.Kinds as is-biplanar-kinds
 use Rattle.plane.proofs.is_biplanar.Reads as is-biplanar
 use Rattle.plane.proofs.is_alone.Kinds as is-alone-kinds
 use Rattle.plane.proofs.is_alone.Reads as is-alone
+use Rattle.plane.proofs.sample_bytes.Kinds as sample-bytes-kinds
+use Rattle.plane.proofs.sample_bytes.Reads as sample-bytes
 use Rattle.plane.proofs.within.Kinds as within-kinds
 use Rattle.plane.proofs.within.Reads as within
 use Rattle.plane.proofs.good_shape.Kinds as good-shape-kinds
@@ -37,6 +39,8 @@ use Rattle.plane.proofs.at.Kinds as at-kinds
 use Rattle.plane.proofs.at.Reads as at
 use Rattle.plane.proofs.planes_agree.Kinds as planes-agree-kinds
 use Rattle.plane.proofs.planes_agree.Reads as planes-agree
+use Rattle.plane.proofs.half_of.Kinds as half-of-kinds
+use Rattle.plane.proofs.half_of.Reads as half-of
 use Rattle.plane.proofs.chroma_agrees.Kinds as chroma-agrees-kinds
 use Rattle.plane.proofs.chroma_agrees.Reads as chroma-agrees
 use Rattle.plane.proofs.Planes.planar.Kinds as planar-kinds
@@ -57,6 +61,9 @@ is-biplanar-once κs a x y u v p q = (same p q, refl)
 
 pub is-alone-once : OneAnswer 0 is-alone-kinds.ps is-alone-kinds.r is-alone.Post
 is-alone-once κs a x y u v p q = (same p q, refl)
+
+pub sample-bytes-once : OneAnswer 0 sample-bytes-kinds.ps sample-bytes-kinds.r sample-bytes.Post
+sample-bytes-once κs a x y u v p q = (same (p .0) (q .0), refl)
 
 pub within-once : OneAnswer 0 within-kinds.ps within-kinds.r within.Post
 within-once κs a x y u v p q = (same p q, refl)
@@ -99,6 +106,9 @@ at-once κs a x y u v p q = (one-sampled x y (same (p .0) (q .0)) (same (p .1) (
 
 pub planes-agree-once : OneAnswer 0 planes-agree-kinds.ps planes-agree-kinds.r planes-agree.Post
 planes-agree-once κs a x y u v p q = (same p q, refl)
+
+pub half-of-once : OneAnswer 0 half-of-kinds.ps half-of-kinds.r half-of.Post
+half-of-once κs a x y u v p q = (same p q, refl)
 
 pub chroma-agrees-once : OneAnswer 0 chroma-agrees-kinds.ps chroma-agrees-kinds.r chroma-agrees.Post
 chroma-agrees-once κs a x y u v p q = (same p q, refl)

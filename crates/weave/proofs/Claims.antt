@@ -7,7 +7,7 @@ use lib.ListN.{length, getD, take, drop}
 use Rattle.laws.specs.Refusal.{rising}
 use Rattle.laws.proofs.Claims.{lowest-says}
 use Rattle.laws.proofs.Lists.{part-at, length-laid, laid-at, laid-row, clamped-row}
-use Rattle.weave.specs.declared.Lines.{Lines}
+use Rattle.plane.specs.declared.Grid.{Grid}
 use Rattle.weave.specs.Weave.{lineBytes, wovenLine, wovenPlane, wovenBytes, weaveTests, lineTests}
 use Rattle.weave.specs.Claims.{WeaveSays, LineSays, Matched, WovenAlternates, LineOfWoven}
 use Rattle.weave.proofs.Fields.{wovenRows, same-size, rows-wide, rows-laid, even-row, odd-row}
@@ -20,7 +20,7 @@ pub line-says : LineSays
 unfolding rising
 line-says t top-bytes b bottom-bytes y = lowest-says (lineTests t top-bytes b bottom-bytes y) tt
 
-module _ (top : List ℕ) (t : Lines) (bottom : List ℕ) (b : Lines) (m : Matched top t bottom b) where
+module _ (top : List ℕ) (t : Grid) (bottom : List ℕ) (b : Grid) (m : Matched top t bottom b) where
   wide : (y : ℕ) → length (wovenRows top t bottom b y) ≡ lineBytes t
   wide = rows-wide top t bottom b m
 

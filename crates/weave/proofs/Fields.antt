@@ -13,11 +13,11 @@ use Rattle.laws.specs.Rows.{laid, over}
 use Rattle.laws.proofs.Rows.{row-within, strided-within}
 use Rattle.laws.proofs.Lists.{part-length, Stacked, stack-starts, stacks-part, stack-ends, clamped, clamped-wide, clamped-row, clamped-laid}
 use Rattle.plane.specs.declared.Shape.{Shape}
-use Rattle.plane.specs.Plane.{goodShape, planeBytes, sampleBytes, agree}
+use Rattle.plane.specs.Plane.{goodShape, gridShape, planeBytes, sampleBytes, agree}
 use Rattle.plane.proofs.Bounds.{good-within}
 use Rattle.plane.proofs.Coordinates.{both-inside}
-use Rattle.weave.specs.declared.Lines.{Lines}
-use Rattle.weave.specs.Weave.{shapeOf, lineBytes, goodLines, lineIn, wovenLine, placeIn, linePlace, wovenPlane, wovenBytes}
+use Rattle.plane.specs.declared.Grid.{Grid}
+use Rattle.weave.specs.Weave.{lineBytes, goodLines, lineIn, wovenLine, placeIn, linePlace, wovenPlane, wovenBytes}
 use Rattle.weave.specs.Claims.{Matched}
 
 -- planes that agree, number by number
@@ -37,16 +37,16 @@ alike-in a b h =
     }
 
 -- what the bounds of a plane of a field come to
-pub record Bounded (l : Lines) : Type 0 where
+pub record Bounded (l : Grid) : Type 0 where
   pub height-least : 1 ≤ l .height
   pub height-most : l .height ≤ 2176
   pub stride-most : l .stride ≤ 65536
   pub line-most : lineBytes l ≤ l .stride
 
-pub bounded : (l : Lines) → goodLines l ≡ true → Bounded l
+pub bounded : (l : Grid) → goodLines l ≡ true → Bounded l
 bounded l h =
-    let both = both-inside (goodShape (shapeOf l)) (leb (l .height) 2176) h in
-    let w = good-within (shapeOf l) (both .0) in
+    let both = both-inside (goodShape (gridShape l)) (leb (l .height) 2176) h in
+    let w = good-within (gridShape l) (both .0) in
     record {
       height-least = w .height-least;
       height-most = leb-true (l .height) 2176 (both .1);
@@ -55,11 +55,11 @@ bounded l h =
     }
 
 -- a line of a plane that has the bytes it needs ends within it
-pub line-within : (l : Lines) (bytes r : ℕ) → planeBytes (shapeOf l) ≤ bytes → r < l .height → r * l .stride + lineBytes l ≤ bytes
+pub line-within : (l : Grid) (bytes r : ℕ) → planeBytes (gridShape l) ≤ bytes → r < l .height → r * l .stride + lineBytes l ≤ bytes
 line-within l bytes r whole h = strided-within (l .stride) (l .height) (lineBytes l) bytes r whole h
 
 -- an even woven line is a top line, an odd one a bottom line
-module _ (top : List ℕ) (t : Lines) (bottom : List ℕ) (b : Lines) where
+module _ (top : List ℕ) (t : Grid) (bottom : List ℕ) (b : Grid) where
   pub top-line : (y : ℕ) → y % 2 ≡ 0 → wovenLine top t bottom b y ≡ lineIn top t (y / 2)
   unfolding wovenLine
   top-line y h = rw (eq-eqb (y % 2) 0 h)
@@ -79,7 +79,7 @@ module _ (top : List ℕ) (t : Lines) (bottom : List ℕ) (b : Lines) where
       bottom-line (r * 2 + 1) (λ h. omega arith) ∙ ap (λ (k : ℕ). lineIn bottom b k) half
 
 -- where a woven line stands
-module _ (top : ℕ × ℕ) (t : Lines) (bottom : ℕ × ℕ) (b : Lines) (y : ℕ) where
+module _ (top : ℕ × ℕ) (t : Grid) (bottom : ℕ × ℕ) (b : Grid) (y : ℕ) where
   pub top-place : y % 2 ≡ 0 → linePlace top t bottom b y ≡ placeIn top t (y / 2)
   top-place h = rw (eq-eqb (y % 2) 0 h)
 
@@ -87,20 +87,20 @@ module _ (top : ℕ × ℕ) (t : Lines) (bottom : ℕ × ℕ) (b : Lines) (y : �
   bottom-place h = rw (ne-eqb (y % 2) 0 h)
 
 -- the lines of a woven plane, of which the last stands for each that lies past it
-abbrev pub wovenRows : List ℕ → Lines → List ℕ → Lines → ℕ → List ℕ
+abbrev pub wovenRows : List ℕ → Grid → List ℕ → Grid → ℕ → List ℕ
 wovenRows top t bottom b = clamped (wovenLine top t bottom b) (t .height * 2 - 1)
 
-module _ (top : List ℕ) (t : Lines) (bottom : List ℕ) (b : Lines) (m : Matched top t bottom b) where
+module _ (top : List ℕ) (t : Grid) (bottom : List ℕ) (b : Grid) (m : Matched top t bottom b) where
   some-row : 1 ≤ t .height
-  some-row = good-within (shapeOf t) (both-inside (goodShape (shapeOf t)) (leb (t .height) 2176) (m .top-good) .0) .height-least
+  some-row = good-within (gridShape t) (both-inside (goodShape (gridShape t)) (leb (t .height) 2176) (m .top-good) .0) .height-least
 
   pub same-size : lineBytes b ≡ lineBytes t
   same-size =
-      let same = alike-in (shapeOf t) (shapeOf b) (m .alike) in
+      let same = alike-in (gridShape t) (gridShape b) (m .alike) in
       ap₂ (λ (width depth : ℕ). width * 1 * sampleBytes depth) (sym (same .widths)) (sym (same .depths))
 
   same-height : b .height ≡ t .height
-  same-height = sym (alike-in (shapeOf t) (shapeOf b) (m .alike) .heights)
+  same-height = sym (alike-in (gridShape t) (gridShape b) (m .alike) .heights)
 
   -- where the lines of row r end
   pub top-ends : (r : ℕ) → r < t .height → r * t .stride + lineBytes t ≤ length top

@@ -3,15 +3,16 @@ use Prim.Native.Nat.{ℕ, _*_, _≤_, _<_}
 use mathlib.Core.Path.{_≡_, sym, ap, _∙_}
 use mathlib.Core.Bool.{Bool, true, _&&_}
 use mathlib.Core.List.{List}
-use lib.Dec.{eqb, lit<}
+use lib.Dec.{eqb}
 use lib.ListN.{length}
 use borrow.Author.Tests.{leb-true, ltb-true, eqb-true, eq-eqb}
-use Rattle.laws.proofs.Refusal.{first-passes, rest-passes}
+use Rattle.laws.specs.Refusal.{rising}
+use Rattle.laws.proofs.Refusal.{all-pass}
 use Rattle.plane.specs.declared.Shape.{Shape}
-use Rattle.plane.specs.Plane.{agree, half, chromaAgrees}
+use Rattle.plane.specs.Plane.{gridShape, agree, half, chromaAgrees}
 use Rattle.plane.proofs.Coordinates.{both-inside}
-use Rattle.weave.specs.declared.Lines.{Lines}
-use Rattle.weave.specs.Weave.{Given, shapeOf, goodLines, goodField, chromaFits, whole, roomFor, wovenBytes, weaveNo, lineNo}
+use Rattle.plane.specs.declared.Grid.{Grid}
+use Rattle.weave.specs.Weave.{Given, goodLines, goodField, chromaFits, whole, wovenBytes, weaveTests, weaveNo, lineTests, lineNo}
 use Rattle.weave.specs.Claims.{Matched}
 use Rattle.weave.proofs.Fields.{Alike, alike-in}
 
@@ -60,30 +61,29 @@ chroma-alike luma chroma luma′ chroma′ same one other =
 -- ---- the three planes of a call of `weave`
 
 -- a plane that can be woven into the room it has
-abbrev pub Ready : List ℕ → Lines → List ℕ → Lines → ℕ → Type 0
-Ready top t bottom b room = Matched top t bottom b × (wovenBytes t ≤ room)
+abbrev pub PlaneWeavable : List ℕ → Grid → List ℕ → Grid → ℕ → Type 0
+PlaneWeavable top t bottom b room = Matched top t bottom b × (wovenBytes t ≤ room)
 
 module _ (top bottom : Given) (luma-room cb-room cr-room : ℕ) (done : weaveNo top bottom luma-room cb-room cr-room ≡ 0) where
   pub judged :
-      Ready (top .luma) (top .shape .luma) (bottom .luma) (bottom .shape .luma) luma-room
-      × Ready (top .cb) (top .shape .cb) (bottom .cb) (bottom .shape .cb) cb-room
-      × Ready (top .cr) (top .shape .cr) (bottom .cr) (bottom .shape .cr) cr-room
+      PlaneWeavable (top .luma) (top .shape .luma) (bottom .luma) (bottom .shape .luma) luma-room
+      × PlaneWeavable (top .cb) (top .shape .cb) (bottom .cb) (bottom .shape .cb) cb-room
+      × PlaneWeavable (top .cr) (top .shape .cr) (bottom .cr) (bottom .shape .cr) cr-room
+  unfolding rising
   judged =
       let t = top .shape in
       let b = bottom .shape in
-      let past-shapes = rest-passes 4 _ _ (lit< tt) done in
-      let past-sizes = rest-passes 5 _ _ (lit< tt) past-shapes in
-      let past-bytes = rest-passes 6 _ _ (lit< tt) past-sizes in
-      let shapes = both-inside (goodField t) (goodField b) (first-passes 4 _ _ (lit< tt) done) in
+      let tests = all-pass (weaveTests top bottom luma-room cb-room cr-room) tt done in
+      let shapes = both-inside (goodField t) (goodField b) (tests .0) in
       let good = each-of-three (goodLines (t .luma)) (goodLines (t .cb)) (goodLines (t .cr)) (shapes .0) in
       let good′ = each-of-three (goodLines (b .luma)) (goodLines (b .cb)) (goodLines (b .cr)) (shapes .1) in
-      let sizes = each-of-three (agree (shapeOf (t .luma)) (shapeOf (b .luma))) (chromaFits t) (chromaFits b) (first-passes 5 _ _ (lit< tt) past-shapes) in
-      let fits = both-inside (chromaAgrees (shapeOf (t .luma)) (shapeOf (t .cb))) (chromaAgrees (shapeOf (t .luma)) (shapeOf (t .cr))) (sizes .1) in
-      let fits′ = both-inside (chromaAgrees (shapeOf (b .luma)) (shapeOf (b .cb))) (chromaAgrees (shapeOf (b .luma)) (shapeOf (b .cr))) (sizes .2) in
-      let wholes = both-inside (whole top) (whole bottom) (first-passes 6 _ _ (lit< tt) past-sizes) in
+      let sizes = each-of-three (agree (gridShape (t .luma)) (gridShape (b .luma))) (chromaFits t) (chromaFits b) (tests .1 .0) in
+      let fits = both-inside (chromaAgrees (gridShape (t .luma)) (gridShape (t .cb))) (chromaAgrees (gridShape (t .luma)) (gridShape (t .cr))) (sizes .1) in
+      let fits′ = both-inside (chromaAgrees (gridShape (b .luma)) (gridShape (b .cb))) (chromaAgrees (gridShape (b .luma)) (gridShape (b .cr))) (sizes .2) in
+      let wholes = both-inside (whole top) (whole bottom) (tests .1 .1 .0) in
       let long = each-of-three _ _ _ (wholes .0) in
       let long′ = each-of-three _ _ _ (wholes .1) in
-      let rooms = each-of-three _ _ _ (first-passes 7 (roomFor t luma-room cb-room cr-room) _ (lit< tt) past-bytes) in (
+      let rooms = each-of-three _ _ _ (tests .1 .1 .1 .0) in (
         (
           record {
             top-good = good .0;
@@ -98,7 +98,7 @@ module _ (top bottom : Given) (luma-room cb-room cr-room : ℕ) (done : weaveNo 
           record {
             top-good = good .1;
             bottom-good = good′ .1;
-            alike = chroma-alike (shapeOf (t .luma)) (shapeOf (t .cb)) (shapeOf (b .luma)) (shapeOf (b .cb)) (sizes .0) (fits .0) (fits′ .0);
+            alike = chroma-alike (gridShape (t .luma)) (gridShape (t .cb)) (gridShape (b .luma)) (gridShape (b .cb)) (sizes .0) (fits .0) (fits′ .0);
             top-whole = leb-true _ _ (long .1);
             bottom-whole = leb-true _ _ (long′ .1);
           },
@@ -108,7 +108,7 @@ module _ (top bottom : Given) (luma-room cb-room cr-room : ℕ) (done : weaveNo 
           record {
             top-good = good .2;
             bottom-good = good′ .2;
-            alike = chroma-alike (shapeOf (t .luma)) (shapeOf (t .cr)) (shapeOf (b .luma)) (shapeOf (b .cr)) (sizes .0) (fits .1) (fits′ .1);
+            alike = chroma-alike (gridShape (t .luma)) (gridShape (t .cr)) (gridShape (b .luma)) (gridShape (b .cr)) (sizes .0) (fits .1) (fits′ .1);
             top-whole = leb-true _ _ (long .2);
             bottom-whole = leb-true _ _ (long′ .2);
           },
@@ -119,20 +119,19 @@ module _ (top bottom : Given) (luma-room cb-room cr-room : ℕ) (done : weaveNo 
 -- ---- a single line
 
 pub line-judged :
-    (top : List ℕ) (t : Lines) (bottom : List ℕ) (b : Lines) (y : ℕ) →
+    (top : List ℕ) (t : Grid) (bottom : List ℕ) (b : Grid) (y : ℕ) →
     lineNo t (length top) b (length bottom) y ≡ 0 → Matched top t bottom b × (y < t .height * 2)
+unfolding rising
 line-judged top t bottom b y done =
-    let past-line = rest-passes 3 _ _ (lit< tt) done in
-    let past-shapes = rest-passes 4 _ _ (lit< tt) past-line in
-    let past-sizes = rest-passes 5 _ _ (lit< tt) past-shapes in
-    let shapes = both-inside (goodLines t) (goodLines b) (first-passes 4 _ _ (lit< tt) past-line) in
-    let wholes = both-inside _ _ (first-passes 6 _ _ (lit< tt) past-sizes) in (
+    let tests = all-pass (lineTests t (length top) b (length bottom) y) tt done in
+    let shapes = both-inside (goodLines t) (goodLines b) (tests .1 .0) in
+    let wholes = both-inside _ _ (tests .1 .1 .1 .0) in (
       record {
         top-good = shapes .0;
         bottom-good = shapes .1;
-        alike = first-passes 5 _ _ (lit< tt) past-shapes;
+        alike = tests .1 .1 .0;
         top-whole = leb-true _ _ (wholes .0);
         bottom-whole = leb-true _ _ (wholes .1);
       },
-      ltb-true y (t .height * 2) (first-passes 3 _ _ (lit< tt) done),
+      ltb-true y (t .height * 2) (tests .0),
     )

@@ -6,29 +6,21 @@
 //
 // Two fields woven into one frame, line by line.
 ghost use mathlib.Core.Path.{_≡_};
-ghost use mathlib.Core.List.{[], _++_};
+ghost use mathlib.Core.List.{_++_};
 ghost use Prim.Native.Nat.{_+_, _≤_};
 ghost use lib.Dec.{leb};
 ghost use lib.ListN.{length, take, drop};
-ghost use Rattle.laws.specs.Refusal.{written};
 ghost use Rattle.laws.specs.Rows.{over};
-ghost use Rattle.plane.specs.Plane.{planeBytes, agree, chromaAgrees};
-ghost use Rattle.weave.specs.Weave.{shapeOf, lineBytes, goodLines, givenOf, wovenLine, linePlace, wovenPlane, wovenBytes, goodField, chromaFits, wholeField, roomFor, weaveNo, lineNo, doubled, wovenFormat};
+ghost use Rattle.plane.specs.Plane.{gridShape, planeBytes, agree, chromaAgrees};
+ghost use Rattle.weave.specs.Weave.{lineBytes, goodLines, wovenPlane, wovenBytes, goodField, chromaFits, wholeField, roomFor, lentField, weaveNoOf, wovenAfter, lineNo, lineGiven, placeGiven, doubled, wovenFormat};
 ghost use Rattle.weave.specs.Claims.{Matched};
+use plane::Grid;
 
-// The lines of one plane of a field. Stride is in bytes.
-pub struct Lines {
-    pub width: u16,
-    pub height: u16,
-    pub depth: u8,
-    pub stride: u32,
-}
-
-// The three planes of a field.
+// The three planes of a field; a row of a plane is a line of the field.
 pub struct Field {
-    pub luma: Lines,
-    pub cb: Lines,
-    pub cr: Lines,
+    pub luma: Grid,
+    pub cb: Grid,
+    pub cr: Grid,
 }
 
 // What is said of a stream's pictures.
@@ -47,50 +39,38 @@ pub struct Format {
 
 // ---- shapes and their tests
 
-fn shape_of(l: Lines) -> plane::Shape
-    ensures { λ r. ⌜ r ≡ shapeOf l ⌝ }
-{
-    plane::Shape {
-        width: l.width,
-        height: l.height,
-        depth: l.depth,
-        stride: l.stride,
-        layout: plane::Layout::Planar,
-    }
-}
-
-fn good_lines(l: Lines) -> bool
+fn good_lines(l: Grid) -> bool
     ensures { λ r. ⌜ r ≡ goodLines l ⌝ }
 {
-    plane::good_shape(shape_of(l)) & (l.height <= 2176)
+    plane::good_shape(plane::shape_of(l)) & (l.height <= 2176)
 }
 
-fn lines_agree(t: Lines, b: Lines) -> bool
-    ensures { λ r. ⌜ r ≡ agree (shapeOf t) (shapeOf b) ⌝ }
+fn lines_agree(t: Grid, b: Grid) -> bool
+    ensures { λ r. ⌜ r ≡ agree (gridShape t) (gridShape b) ⌝ }
 {
-    plane::planes_agree(shape_of(t), shape_of(b))
+    plane::planes_agree(plane::shape_of(t), plane::shape_of(b))
 }
 
-fn half_size(luma: Lines, chroma: Lines) -> bool
-    ensures { λ r. ⌜ r ≡ chromaAgrees (shapeOf luma) (shapeOf chroma) ⌝ }
+fn half_size(luma: Grid, chroma: Grid) -> bool
+    ensures { λ r. ⌜ r ≡ chromaAgrees (gridShape luma) (gridShape chroma) ⌝ }
 {
-    plane::chroma_agrees(shape_of(luma), shape_of(chroma))
+    plane::chroma_agrees(plane::shape_of(luma), plane::shape_of(chroma))
 }
 
-fn is_whole(l: Lines, bytes: usize) -> bool
-    ensures { λ r. ⌜ r ≡ leb (planeBytes (shapeOf l)) bytes ⌝ }
+fn is_whole(l: Grid, bytes: usize) -> bool
+    ensures { λ r. ⌜ r ≡ leb (planeBytes (gridShape l)) bytes ⌝ }
 {
-    plane::plane_bytes(shape_of(l)) <= bytes
+    plane::plane_bytes(plane::shape_of(l)) <= bytes
 }
 
-fn line_bytes(l: Lines) -> usize
+fn line_bytes(l: Grid) -> usize
     ensures { λ r. ⌜ (r ≡ lineBytes l) × (r ≤ 131070) ⌝ }
 {
     let width = l.width as usize;
     if l.depth <= 8 { width } else { width * 2 }
 }
 
-fn has_room(l: Lines, room: usize) -> bool
+fn has_room(l: Grid, room: usize) -> bool
     ensures { λ r. ⌜ r ≡ leb (wovenBytes l) room ⌝ }
 {
     (l.height as usize) * 2 * line_bytes(l) <= room
@@ -131,7 +111,7 @@ fn copy_part(dst: &mut [u8], at: usize, src: &[u8], from: usize, n: usize)
 }
 
 // A top line and a bottom line in each turn; nothing is judged per line.
-fn weave_plane(out: &mut [u8], top: &[u8], t: Lines, bottom: &[u8], b: Lines)
+fn weave_plane(out: &mut [u8], top: &[u8], t: Grid, bottom: &[u8], b: Grid)
     requires { ⌜ Matched (now top) t (now bottom) b × (wovenBytes t ≤ length (now out)) ⌝ }
     ensures { λ _. ⌜ now (out .exit) ≡ over (wovenPlane (now (top .entry)) t (now (bottom .entry)) b) (now (out .entry)) ⌝ }
 {
@@ -161,17 +141,29 @@ pub fn weave(
     bottom_cb: &[u8],
     bottom_cr: &[u8],
 ) -> u8
-    ensures { λ r. ⌜ r ≡ weaveNo (givenOf top (now («top_luma» .entry)) (now («top_cb» .entry)) (now («top_cr» .entry))) (givenOf bottom (now («bottom_luma» .entry)) (now («bottom_cb» .entry)) (now («bottom_cr» .entry))) (length (now («out_luma» .entry))) (length (now («out_cb» .entry))) (length (now («out_cr» .entry))) ⌝ }
-    ensures { λ r. ⌜ now («out_luma» .exit) ≡ written r (over (wovenPlane (now («top_luma» .entry)) (top .luma) (now («bottom_luma» .entry)) (bottom .luma)) (now («out_luma» .entry))) (now («out_luma» .entry)) ⌝ }
-    ensures { λ r. ⌜ now («out_cb» .exit) ≡ written r (over (wovenPlane (now («top_cb» .entry)) (top .cb) (now («bottom_cb» .entry)) (bottom .cb)) (now («out_cb» .entry))) (now («out_cb» .entry)) ⌝ }
-    ensures { λ r. ⌜ now («out_cr» .exit) ≡ written r (over (wovenPlane (now («top_cr» .entry)) (top .cr) (now («bottom_cr» .entry)) (bottom .cr)) (now («out_cr» .entry))) (now («out_cr» .entry)) ⌝ }
+    ensures { λ r. ⌜ r ≡ weaveNoOf (lentField top «top_luma» «top_cb» «top_cr») (lentField bottom «bottom_luma» «bottom_cb» «bottom_cr») «out_luma» «out_cb» «out_cr» ⌝ }
+    ensures { λ r. ⌜ now («out_luma» .exit) ≡ wovenAfter r (now («top_luma» .entry)) (top .luma) (now («bottom_luma» .entry)) (bottom .luma) (now («out_luma» .entry)) ⌝ }
+    ensures { λ r. ⌜ now («out_cb» .exit) ≡ wovenAfter r (now («top_cb» .entry)) (top .cb) (now («bottom_cb» .entry)) (bottom .cb) (now («out_cb» .entry)) ⌝ }
+    ensures { λ r. ⌜ now («out_cr» .exit) ≡ wovenAfter r (now («top_cr» .entry)) (top .cr) (now («bottom_cr» .entry)) (bottom .cr) (now («out_cr» .entry)) ⌝ }
 {
     let shapes = good_field(top) & good_field(bottom);
     let same = lines_agree(top.luma, bottom.luma) & chroma_fits(top) & chroma_fits(bottom);
     let whole = whole_field(top, top_luma.len(), top_cb.len(), top_cr.len())
         & whole_field(bottom, bottom_luma.len(), bottom_cb.len(), bottom_cr.len());
     let room = room_for(top, out_luma.len(), out_cb.len(), out_cr.len());
-    let no = refusal::lowest_of(true, shapes, same, whole, room, true);
+    let no = refusal::test(
+        refusal::SHAPE,
+        shapes,
+        refusal::test(
+            refusal::DIFFER,
+            same,
+            refusal::test(
+                refusal::SHORT_INPUT,
+                whole,
+                refusal::test(refusal::SHORT_OUTPUT, room, refusal::DONE),
+            ),
+        ),
+    );
     if no == 0 {
         weave_plane(out_luma, top_luma, top.luma, bottom_luma, bottom.luma);
         weave_plane(out_cb, top_cb, top.cb, bottom_cb, bottom.cb);
@@ -181,16 +173,24 @@ pub fn weave(
 }
 
 // The number of `woven_line`: 3, 4, 5 or 6.
-pub fn line_no(top: Lines, top_bytes: usize, bottom: Lines, bottom_bytes: usize, y: u32) -> u8
+pub fn line_no(top: Grid, top_bytes: usize, bottom: Grid, bottom_bytes: usize, y: u32) -> u8
     ensures { λ r. ⌜ r ≡ lineNo top «top_bytes» bottom «bottom_bytes» y ⌝ }
 {
-    refusal::lowest_of(
+    let shapes = good_lines(top) & good_lines(bottom);
+    let same = lines_agree(top, bottom);
+    let whole = is_whole(top, top_bytes) & is_whole(bottom, bottom_bytes);
+    refusal::test(
+        refusal::OUTSIDE,
         y < (top.height as u32) * 2,
-        good_lines(top) & good_lines(bottom),
-        lines_agree(top, bottom),
-        is_whole(top, top_bytes) & is_whole(bottom, bottom_bytes),
-        true,
-        true,
+        refusal::test(
+            refusal::SHAPE,
+            shapes,
+            refusal::test(
+                refusal::DIFFER,
+                same,
+                refusal::test(refusal::SHORT_INPUT, whole, refusal::DONE),
+            ),
+        ),
     )
 }
 
@@ -198,13 +198,13 @@ pub fn line_no(top: Lines, top_bytes: usize, bottom: Lines, bottom_bytes: usize,
 // says why.
 pub fn woven_line<'a>(
     top: &'a [u8],
-    top_lines: Lines,
+    top_lines: Grid,
     bottom: &'a [u8],
-    bottom_lines: Lines,
+    bottom_lines: Grid,
     y: u32,
 ) -> &'a [u8]
-    ensures { λ r. ⌜ now r ≡ written (lineNo «top_lines» (length (now (top .entry))) «bottom_lines» (length (now (bottom .entry))) y) (wovenLine (now (top .entry)) «top_lines» (now (bottom .entry)) «bottom_lines» y) [] ⌝ }
-    ensures { λ r. ⌜ r .ptr ≡ written (lineNo «top_lines» (length (now (top .entry))) «bottom_lines» (length (now (bottom .entry))) y) (linePlace (top .entry .ptr) «top_lines» (bottom .entry .ptr) «bottom_lines» y) (top .entry .ptr) ⌝ }
+    ensures { λ r. ⌜ now r ≡ lineGiven top «top_lines» bottom «bottom_lines» y ⌝ }
+    ensures { λ r. ⌜ r .ptr ≡ placeGiven top «top_lines» bottom «bottom_lines» y ⌝ }
 {
     if line_no(top_lines, top.len(), bottom_lines, bottom.len(), y) == 0 {
         let row = (y / 2) as usize;

@@ -4,18 +4,18 @@ use mathlib.Core.Path.{_≡_, refl, sym, ap, subst, _∙_}
 use mathlib.Core.Bool.{Bool, true, false, _&&_}
 use mathlib.Core.List.{List, [], _∷_}
 use native.Mathlib.Omega.{arith}
-use lib.Dec.{leb, lit<}
+use lib.Dec.{leb}
 use lib.ListN.{length}
 use borrow.Author.Tests.{lt-leb, ne-eqb}
-use Rattle.laws.specs.Refusal.{lowest, written}
-use Rattle.laws.proofs.Refusal.{first-passes, stays}
+use Rattle.laws.specs.Refusal.{lowest, rising, written}
+use Rattle.laws.proofs.Refusal.{all-pass, stays}
 use Rattle.weaver.specs.declared.Time.{Time}
 use Rattle.weaver.specs.declared.Time.the-variants as time
 use Rattle.weaver.specs.History as calls
 use Rattle.weaver.specs.Claims as claims
 use Rattle.weaver.proofs.Claims as weaver
-use Rattle.weavedesk.specs.Push.{Lent, Offer, newNo, clearNo, pushNo, lumaAfter, cbAfter, crAfter, pictureNumber, timedNumber, timeNumber}
-use Rattle.weavedesk.specs.History.{Call, new, push, clear, after, fieldMeant, named, callsOf, timedOf, timeOf}
+use Rattle.weavedesk.specs.Push.{Lent, Offer, newNo, clearNo, pushTests, pushNo, lumaAfter, cbAfter, crAfter, pictureNumber, timedNumber, timeNumber}
+use Rattle.weavedesk.specs.History.{Call, new, push, clear, after, fieldMeant, codesNamed, callsOf, timedOf, timeOf}
 use Rattle.weavedesk.specs.Claims.{Gives, PairsWoven, RefusalKnown, RefusedLeaves, PlacesStay, TooShort}
 use Rattle.weavedesk.proofs.Held.{heldIn, number-same, alone-fails, Follows, follows}
 
@@ -59,8 +59,9 @@ module _ (state store : List ℕ) (o : Offer) (earlier : List Call) (room : 56 �
   f = follows state store room earlier
 
   pairs : pushNo l o ≡ 0 → Gives (mate (length store)) l o
+  unfolding rising
   pairs done =
-      let number = number-same l (f .held .room) o (first-passes 3 _ _ (lit< tt) done) in
+      let number = number-same l (f .held .room) o (all-pass (pushTests l o) tt done .0) in
       let taken = subst (λ (s : calls.State). calls.numberIn s (fieldMeant o) ≡ 0) (f .held .same) (sym number ∙ done) in
       let said = weaver.pairs-woven (f .found) (fieldMeant o) (callsOf earlier) taken in
       let here = subst (λ (s : calls.State). claims.Gives (mate (length (f .found))) s (fieldMeant o)) (sym (f .held .same)) said in
@@ -68,7 +69,7 @@ module _ (state store : List ℕ) (o : Offer) (earlier : List Call) (room : 56 �
 
   -- the number, where the codes name something and where they do not
   known-named :
-      named o ≡ true → pushNo l o ≡ lowest (calls.refusalTests (length store) (fieldMeant o) (calls.taken (length store) (callsOf earlier)))
+      codesNamed o ≡ true → pushNo l o ≡ lowest (calls.refusalTests (length store) (fieldMeant o) (calls.taken (length store) (callsOf earlier)))
   known-named e =
       number-same l (f .held .room) o e
       ∙ ap (λ (s : calls.State). calls.numberIn s (fieldMeant o)) (f .held .same)
@@ -76,7 +77,7 @@ module _ (state store : List ℕ) (o : Offer) (earlier : List Call) (room : 56 �
       ∙ ap (λ (n : ℕ). calls.refusalOf n (fieldMeant o) (calls.taken n (callsOf earlier))) (f .long)
 
   number-known :
-      (b : Bool) → named o ≡ b
+      (b : Bool) → codesNamed o ≡ b
       → pushNo l o ≡ lowest ((3, b) ∷ calls.refusalTests (length store) (fieldMeant o) (calls.taken (length store) (callsOf earlier)))
   unfolding lowest
   number-known true e = known-named e
@@ -86,7 +87,7 @@ pub pairs-woven : PairsWoven
 pairs-woven state store o earlier room done = pairs state store o earlier room done
 
 pub refusal-known : RefusalKnown
-refusal-known state store o earlier room = number-known state store o earlier room (named o) refl
+refusal-known state store o earlier room = number-known state store o earlier room (codesNamed o) refl
 
 -- ---- refused calls
 pub refused-leaves : RefusedLeaves

@@ -19,8 +19,9 @@ use Rattle.weaver.proofs.Held as weaver-held
 use Rattle.weavedesk.specs.Woven.{fieldNamed}
 use Rattle.weavedesk.specs.Waiting.{wholeSize, weaverNumbers, weaverIn, keeping}
 use Rattle.weavedesk.specs.Push.{Lent, Offer, newNo, clearNo, emptied, parityIn, timeIn, given, weaverOf, pushNo, weaverAfter, stateAfter, storeAfter}
-use Rattle.weavedesk.specs.History.{Call, new, push, clear, next, after, fieldMeant, named, callsOf}
+use Rattle.weavedesk.specs.History.{Call, new, push, clear, next, after, fieldMeant, codesNamed, callsOf}
 use Rattle.weavedesk.specs.Claims.{Sized}
+use Rattle.weavedesk.proofs.Push.{behind-first}
 use Rattle.weavedesk.proofs.States.{found-again, empty-sized, push-sized}
 
 -- ---- a call that writes a weaver to the state, or leaves it
@@ -54,14 +55,6 @@ pub record Held (l : Lent) (s : calls.State) : Type 0 where
   pub room : 56 ≤ length (l .state)
   pub same : heldIn l ≡ s
 
--- where the codes name something and the state is long enough, the number is the weaver's own
-behind :
-    (codes good halved state bytes store fit : Bool) → codes ≡ true → state ≡ true
-    → lowest ((3, codes) ∷ (4, good) ∷ (5, halved) ∷ (6, state && bytes && store) ∷ (7, fit) ∷ [])
-    ≡ lowest ((4, good) ∷ (5, halved) ∷ (6, bytes && store) ∷ (7, fit) ∷ [])
-unfolding lowest
-behind codes good halved state bytes store fit e f = rw (e, f)
-
 unnamed : (codes : Bool) (tests : List (ℕ × Bool)) → codes ≡ false → lowest ((3, codes) ∷ tests) ≡ 3
 unfolding lowest
 unnamed codes tests e = rw e
@@ -79,12 +72,12 @@ module _ (l : Lent) (room : 56 ≤ length (l .state)) where
   enough : leb 56 (length (l .state)) ≡ true
   enough = le-leb 56 (length (l .state)) room
 
-  pub number-same : (o : Offer) → named o ≡ true → pushNo l o ≡ calls.numberIn (heldIn l) (fieldMeant o)
-  number-same o e = behind (named o) _ _ (leb 56 (length (l .state))) _ _ _ e enough
+  pub number-same : (o : Offer) → codesNamed o ≡ true → pushNo l o ≡ calls.numberIn (heldIn l) (fieldMeant o)
+  number-same o e = behind-first _ _ _ (codesNamed o) _ _ (leb 56 (length (l .state))) e enough
 
   -- a field whose codes name it
   pushed-held :
-      (o : Offer) (fit : wholeSize (o .time) < 2 ^ 63) → named o ≡ true
+      (o : Offer) (fit : wholeSize (o .time) < 2 ^ 63) → codesNamed o ≡ true
       → heldIn (next l (push o fit)) ≡ calls.next (heldIn l) (calls.push (fieldMeant o))
   pushed-held o fit e =
       let found = found-then (pushNo l o) (weaverAfter l o) (l .state) (λ z. push-sized l o z fit) in
@@ -94,9 +87,9 @@ module _ (l : Lent) (room : 56 ≤ length (l .state)) where
       }
 
   -- one whose codes name nothing
-  unnamed-held : (o : Offer) (fit : wholeSize (o .time) < 2 ^ 63) → named o ≡ false → heldIn (next l (push o fit)) ≡ heldIn l
+  unnamed-held : (o : Offer) (fit : wholeSize (o .time) < 2 ^ 63) → codesNamed o ≡ false → heldIn (next l (push o fit)) ≡ heldIn l
   unnamed-held o fit e =
-      let three = unnamed (named o) _ e in
+      let three = unnamed (codesNamed o) _ e in
       λ i. record { weaver = weaverIn (stateAfter (three i) l o); store = storeAfter (three i) l o }
 
   cleared-held : heldIn (next l clear) ≡ calls.next (heldIn l) calls.clear
@@ -119,7 +112,7 @@ new-held l room = record { room = written-room (newNo (length (l .state))) empty
 
 push-held :
     (store : List ℕ) (l : Lent) (made : List calls.Call) → Held l (calls.after store made) → (o : Offer) (fit : wholeSize (o .time) < 2 ^ 63) (b : Bool)
-    → named o ≡ b → Held (next l (push o fit)) (calls.after store (cond b (calls.push (fieldMeant o) ∷ made) made))
+    → codesNamed o ≡ b → Held (next l (push o fit)) (calls.after store (cond b (calls.push (fieldMeant o) ∷ made) made))
 push-held store l made h o fit true e = record {
   room = written-room (pushNo l o) (weaverAfter l o) (l .state) (h .room);
   same = pushed-held l (h .room) o fit e ∙ ap (λ (s : calls.State). calls.next s (calls.push (fieldMeant o))) (h .same);
@@ -154,7 +147,7 @@ module _ (state store : List ℕ) (room : 56 ≤ length state) where
       record {
         found = f .found;
         long = f .long;
-        held = push-held (f .found) (after state store earlier) (callsOf earlier) (f .held) o fit (named o) refl;
+        held = push-held (f .found) (after state store earlier) (callsOf earlier) (f .held) o fit (codesNamed o) refl;
       }
   follows (clear ∷ earlier) =
       let f = follows earlier in

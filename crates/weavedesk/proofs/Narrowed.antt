@@ -1,33 +1,31 @@
 -- Numbers are narrowed for the crates beneath, and no answer changes by it: shapes within the bounds are not cut, and others are refused before
 -- anything reads their sizes. One law says so for all calls (`judged`).
-use Prim.Native.Nat.{ℕ, _*_, _≤_, _<_, min}
-use mathlib.Core.Path.{_≡_, refl, sym, ap, _∙_}
-use mathlib.Core.Logic.{_⊎_, inl, inr, ⊎-elim}
-use mathlib.Core.Bool.{Bool, true, false, cond, _&&_}
+use Prim.Native.Nat.{ℕ, _*_, _<_, min}
+use mathlib.Core.Path.{_≡_, sym, ap, _∙_}
+use mathlib.Core.Bool.{Bool, true, cond, _&&_}
 use mathlib.Core.List.{List, [], _∷_}
 use native.Mathlib.Omega.{arith}
-use lib.Dec.{leb, eqb, lit<}
-use borrow.Author.Tests.{leb-true, leb-false, eqb-true, le-leb, lt-ltb, lt-leb}
-use Rattle.laws.specs.Refusal.{lowest, written}
-use Rattle.laws.proofs.Refusal.{first-passes, rest-passes}
-use Rattle.plane.specs.Plane.{goodShape, planeBytes, agree}
-use Rattle.plane.proofs.Bounds.{good-within}
+use lib.Dec.{leb}
+use borrow.Author.Tests.{leb-true, lt-ltb}
+use Rattle.laws.specs.Refusal.{lowest, rising}
+use Rattle.laws.proofs.Refusal.{all-pass, lowest-alike}
+use Rattle.plane.specs.declared.Shape.{Shape}
+use Rattle.plane.specs.declared.Grid.{Grid}
+use Rattle.plane.specs.Plane.{gridShape, goodShape, planeBytes, agree}
 use Rattle.plane.proofs.Coordinates.{both-inside}
-use Rattle.weave.specs.declared.Lines.{Lines}
+use Rattle.numbers.specs.declared.GridNumbers.{GridNumbers}
+use Rattle.numbers.specs.Numbers.{gridNamed}
+use Rattle.numbers.specs.Inner.{cutGrid}
+use Rattle.numbers.proofs.Cut.{one-verdict, cut-same, cut-good}
 use Rattle.weave.specs.declared.Field.{Field}
-use Rattle.weave.specs.Weave.{givenOf, shapeOf, goodLines, goodField, chromaFits, fieldsAgree, whole, roomFor, weaveNo, lineNo}
+use Rattle.weave.specs.Weave.{givenOf, goodLines, goodField, chromaFits, fieldsAgree, whole, roomFor, weaveTests, weaveNo, lineTests, lineNo}
 use Rattle.weave.proofs.Judged.{each-of-three}
 use Rattle.readback.specs.declared.Readback.{Readback}
-use Rattle.readback.specs.Readback.{lumaShape, cbShape, crShape, crBytes, packedBytes, readbackNo}
-use Rattle.weavedesk.specs.declared.LinesNumbers.{LinesNumbers}
+use Rattle.readback.specs.Readback.{lumaShape, cbShape, crShape, crBytes, packedBytes, readbackTests, readbackNo}
 use Rattle.weavedesk.specs.declared.FieldNumbers.{FieldNumbers}
 use Rattle.weavedesk.specs.declared.ReadbackNumbers.{ReadbackNumbers}
-use Rattle.weavedesk.specs.Woven.{linesNamed, fieldNamed, readbackNamed}
-use Rattle.weavedesk.specs.Inner.{linesCut, fieldCut, readbackCut}
-
-known : (b : Bool) → (b ≡ true) ⊎ (b ≡ false)
-known true = inl refl
-known false = inr refl
+use Rattle.weavedesk.specs.Woven.{fieldNamed, readbackNamed}
+use Rattle.weavedesk.specs.Inner.{fieldCut, readbackCut}
 
 -- ---- the law
 
@@ -38,16 +36,11 @@ pub record Narrowed {A : Type 0} (good : A → Bool) (cut given : A) : Type 0 wh
 
 module _ {A : Type 0} {good : A → Bool} {cut given : A} (n : Narrowed good cut given) where
   pub verdict : good cut ≡ good given
-  verdict =
-      ⊎-elim (λ e. ap good (n .from-cut e)) (λ e. ⊎-elim (λ f. ap good (n .from-given f)) (λ f. e ∙ sym f) (known (good given))) (known (good cut))
+  verdict = one-verdict (good cut) (good given) (λ e. sym (ap good (n .from-cut e)) ∙ e) (λ e. ap good (n .from-given e) ∙ e)
 
   -- a number that is judged before all tests that read the sizes
   pub judged : (m : ℕ) (tests : A → List (ℕ × Bool)) → lowest ((m, good cut) ∷ tests cut) ≡ lowest ((m, good given) ∷ tests given)
-  unfolding lowest
-  judged m tests =
-      ⊎-elim (λ e. (λ i. cond (good (n .from-given e i)) (lowest (tests (n .from-given e i))) m))
-      (λ e. (λ i. cond ((verdict ∙ e) i) (lowest (tests cut)) m) ∙ (λ i. cond (sym e i) (lowest (tests given)) m))
-      (known (good given))
+  judged m tests = lowest-alike m (tests cut) (tests given) verdict (λ e. ap (λ (a : A). lowest ((m, good a) ∷ tests a)) (n .from-given e))
 
 both-narrowed :
     {A B : Type 0} {p : A → Bool} {q : B → Bool} {a a′ : A} {b b′ : B} → Narrowed p a a′ → Narrowed q b b′
@@ -57,45 +50,31 @@ both-narrowed {A} {B} {p} {q} {a} {a′} {b} {b′} m n = record {
   from-given = λ e. let both = both-inside (p a′) (q b′) e in (λ i. (m .from-given (both .0) i, n .from-given (both .1) i));
 }
 
--- what a call writes that gets 0 only where the two are one
-pub written-same : {A : Type 0} (r : ℕ) {a b : A} (old : A) → (r ≡ 0 → a ≡ b) → written r a old ≡ written r b old
-written-same r {a} {b} old h =
-    ⊎-elim (λ e. (λ i. written r (h (eqb-true r 0 e) i) old)) (λ e. (λ i. cond (e i) a old) ∙ (λ i. cond (sym e i) b old)) (known (eqb r 0))
-
 -- ---- the planes of a field
 
-lines-same : (n : LinesNumbers) → min (n .width) 65535 ≤ 8192 → min (n .height) 65535 ≤ 4352 → min (n .depth) 255 ≤ 16 → linesCut n ≡ linesNamed n
-lines-same n w h d =
-    let width : min (n .width) 65535 ≡ n .width = omega arith in
-    let height : min (n .height) 65535 ≡ n .height = omega arith in
-    let depth : min (n .depth) 255 ≡ n .depth = omega arith in
-    λ i. record { width = width i; height = height i; depth = depth i; stride = n .stride }
+-- the grid of a shape: what is cut of a grid is cut of its shape
+abbrev gridOf : Shape → Grid
+gridOf s = record { width = s .width; height = s .height; depth = s .depth; stride = s .stride }
 
-cut-least : (n limit most : ℕ) → n ≤ most → min n limit ≤ most
-cut-least n limit most h = omega arith
-
-lines-narrowed : (n : LinesNumbers) → Narrowed goodLines (linesCut n) (linesNamed n)
-lines-narrowed n = record {
+lines-narrowed : (g : Grid) → Narrowed goodLines (cutGrid g) g
+lines-narrowed g = record {
   from-cut = λ e.
-      let w = good-within (shapeOf (linesCut n)) (both-inside (goodShape (shapeOf (linesCut n))) (leb (linesCut n .height) 2176) e .0) in
-      lines-same n (w .width-most) (w .height-most) (w .depth-most);
-  from-given = λ e.
-      let w = good-within (shapeOf (linesNamed n)) (both-inside (goodShape (shapeOf (linesNamed n))) (leb (n .height) 2176) e .0) in
-      lines-same n (cut-least (n .width) 65535 8192 (w .width-most)) (cut-least (n .height) 65535 4352 (w .height-most))
-      (cut-least (n .depth) 255 16 (w .depth-most));
+      let good = both-inside (goodShape (gridShape (cutGrid g))) (leb (cutGrid g .height) 2176) e .0 in
+      ap gridOf (cut-same (gridShape g) (sym (cut-good (gridShape g)) ∙ good));
+  from-given = λ e. ap gridOf (cut-same (gridShape g) (both-inside (goodShape (gridShape g)) (leb (g .height) 2176) e .0));
 }
 
 pub field-narrowed : (n : FieldNumbers) → Narrowed goodField (fieldCut n) (fieldNamed n)
 field-narrowed n =
-    let luma = lines-narrowed (n .luma) in
-    let cb = lines-narrowed (n .cb) in
-    let cr = lines-narrowed (n .cr) in
+    let luma = lines-narrowed (gridNamed (n .luma)) in
+    let cb = lines-narrowed (gridNamed (n .cb)) in
+    let cr = lines-narrowed (gridNamed (n .cr)) in
     record {
       from-cut = λ e.
-          let each = each-of-three (goodLines (linesCut (n .luma))) (goodLines (linesCut (n .cb))) (goodLines (linesCut (n .cr))) e in
+          let each = each-of-three (goodLines (fieldCut n .luma)) (goodLines (fieldCut n .cb)) (goodLines (fieldCut n .cr)) e in
           (λ i. record { luma = luma .from-cut (each .0) i; cb = cb .from-cut (each .1) i; cr = cr .from-cut (each .2) i });
       from-given = λ e.
-          let each = each-of-three (goodLines (linesNamed (n .luma))) (goodLines (linesNamed (n .cb))) (goodLines (linesNamed (n .cr))) e in
+          let each = each-of-three (goodLines (fieldNamed n .luma)) (goodLines (fieldNamed n .cb)) (goodLines (fieldNamed n .cr)) e in
           (λ i. record { luma = luma .from-given (each .0) i; cb = cb .from-given (each .1) i; cr = cr .from-given (each .2) i });
     }
 
@@ -115,33 +94,36 @@ module _ (t b : FieldNumbers) (luma cb cr luma′ cb′ cr′ : List ℕ) (luma-
       ∷ [])
 
   pub weave-same : numberOf (fieldNamed t, fieldNamed b) ≡ 0 → (fieldCut t ≡ fieldNamed t) × (fieldCut b ≡ fieldNamed b)
+  unfolding rising
   weave-same done =
-      let good = both-inside (goodField (fieldNamed t)) (goodField (fieldNamed b)) (first-passes 4 _ _ (lit< tt) done) in
+      let tests = all-pass (weaveTests (givenOf (fieldNamed t) luma cb cr) (givenOf (fieldNamed b) luma′ cb′ cr′) luma-room cb-room cr-room) tt done in
+      let good = both-inside (goodField (fieldNamed t)) (goodField (fieldNamed b)) (tests .0) in
       (field-narrowed t .from-given (good .0), field-narrowed b .from-given (good .1))
 
 -- ---- a single line
 
-module _ (t : LinesNumbers) (top-bytes : ℕ) (b : LinesNumbers) (bottom-bytes y : ℕ) where
+module _ (t : GridNumbers) (top-bytes : ℕ) (b : GridNumbers) (bottom-bytes y : ℕ) where
   -- a line that is inside by the height as given has the numbers that line 0 has
   pub line-number :
-      y < t .height * 2 → lineNo (linesCut t) top-bytes (linesCut b) bottom-bytes 0 ≡ lineNo (linesNamed t) top-bytes (linesNamed b) bottom-bytes y
+      y < t .height * 2 → lineNo (cutGrid (gridNamed t)) top-bytes (cutGrid (gridNamed b)) bottom-bytes 0 ≡ lineNo (gridNamed t) top-bytes (gridNamed b) bottom-bytes y
   unfolding lowest
   line-number h =
       let inside = lt-ltb y (t .height * 2) h in
       let front = lt-ltb 0 (min (t .height) 65535 * 2) (omega arith) in
       let rest =
-      judged (both-narrowed (lines-narrowed t) (lines-narrowed b)) 4
-      (λ (x : Lines × Lines).
-      (5, agree (shapeOf (x .0)) (shapeOf (x .1)))
-      ∷ (6, leb (planeBytes (shapeOf (x .0))) top-bytes && leb (planeBytes (shapeOf (x .1))) bottom-bytes)
+      judged (both-narrowed (lines-narrowed (gridNamed t)) (lines-narrowed (gridNamed b))) 4
+      (λ (x : Grid × Grid).
+      (5, agree (gridShape (x .0)) (gridShape (x .1)))
+      ∷ (6, leb (planeBytes (gridShape (x .0))) top-bytes && leb (planeBytes (gridShape (x .1))) bottom-bytes)
       ∷ []) in
       (λ i. cond (front i) (rest i) 3) ∙ (λ i. cond (sym inside i) (rest 1) 3)
 
-  pub line-same : lineNo (linesNamed t) top-bytes (linesNamed b) bottom-bytes y ≡ 0 → (linesCut t ≡ linesNamed t) × (linesCut b ≡ linesNamed b)
+  pub line-same : lineNo (gridNamed t) top-bytes (gridNamed b) bottom-bytes y ≡ 0 → (cutGrid (gridNamed t) ≡ gridNamed t) × (cutGrid (gridNamed b) ≡ gridNamed b)
+  unfolding rising
   line-same done =
-      let shapes = first-passes 4 _ _ (lit< tt) (rest-passes 3 _ _ (lit< tt) done) in
-      let good = both-inside (goodLines (linesNamed t)) (goodLines (linesNamed b)) shapes in
-      (lines-narrowed t .from-given (good .0), lines-narrowed b .from-given (good .1))
+      let tests = all-pass (lineTests (gridNamed t) top-bytes (gridNamed b) bottom-bytes y) tt done in
+      let good = both-inside (goodLines (gridNamed t)) (goodLines (gridNamed b)) (tests .1 .0) in
+      (lines-narrowed (gridNamed t) .from-given (good .0), lines-narrowed (gridNamed b) .from-given (good .1))
 
 -- ---- a frame read back
 
@@ -149,18 +131,18 @@ abbrev shapesGood : Readback → Bool
 shapesGood r = goodShape (lumaShape r) && goodShape (cbShape r) && goodShape (crShape r)
 
 module _ (n : ReadbackNumbers) where
-  readback-equal :
-      min (n .planes) 255 ≡ n .planes → min (n .width) 65535 ≤ 8192 → min (n .height) 65535 ≤ 4352 → min (n .depth) 255 ≤ 16
-      → readbackCut n ≡ readbackNamed n
-  readback-equal count w h d =
-      let width : min (n .width) 65535 ≡ n .width = omega arith in
-      let height : min (n .height) 65535 ≡ n .height = omega arith in
-      let depth : min (n .depth) 255 ≡ n .depth = omega arith in
+  abbrev luma : Shape
+  luma = lumaShape (readbackNamed n)
+
+  -- of a count that fits its place, what is cut of a frame is cut of its luma's shape
+  same-frame : min (n .planes) 255 ≡ n .planes → goodShape luma ≡ true → readbackCut n ≡ readbackNamed n
+  same-frame count good =
+      let sizes = cut-same luma good in
       λ i. record {
         planes = count i;
-        width = width i;
-        height = height i;
-        depth = depth i;
+        width = sizes i .width;
+        height = sizes i .height;
+        depth = sizes i .depth;
         «luma_pitch» = n .«luma_pitch»;
         «second_pitch» = n .«second_pitch»;
         «third_pitch» = n .«third_pitch»;
@@ -170,18 +152,27 @@ module _ (n : ReadbackNumbers) where
   shapes-narrowed count = record {
     from-cut = λ e.
         let r = readbackCut n in
-        let w = good-within (lumaShape r) (each-of-three (goodShape (lumaShape r)) (goodShape (cbShape r)) (goodShape (crShape r)) e .0) in
-        readback-equal count (w .width-most) (w .height-most) (w .depth-most);
-    from-given = λ e.
-        let r = readbackNamed n in
-        let w = good-within (lumaShape r) (each-of-three (goodShape (lumaShape r)) (goodShape (cbShape r)) (goodShape (crShape r)) e .0) in
-        readback-equal count (cut-least (n .width) 65535 8192 (w .width-most)) (cut-least (n .height) 65535 4352 (w .height-most))
-        (cut-least (n .depth) 255 16 (w .depth-most));
+        same-frame count (sym (cut-good luma) ∙ each-of-three (goodShape (lumaShape r)) (goodShape (cbShape r)) (goodShape (crShape r)) e .0);
+    from-given = λ e. same-frame count (each-of-three (goodShape luma) (goodShape (cbShape (readbackNamed n))) (goodShape (crShape (readbackNamed n))) e .0);
   }
 
-  module _ (luma second third luma-room cb-room cr-room : ℕ) where
+  -- a count that passes fits its place, and one that is cut does not pass
+  abbrev counts : ℕ → Bool
+  counts k = leb 1 k && leb k 3
+
+  uncut : counts (n .planes) ≡ true → min (n .planes) 255 ≡ n .planes
+  uncut e = omega (arith, leb-true (n .planes) 3 (both-inside (leb 1 (n .planes)) (leb (n .planes) 3) e .1))
+
+  uncut-too : counts (min (n .planes) 255) ≡ true → min (n .planes) 255 ≡ n .planes
+  uncut-too e = omega (arith, leb-true (min (n .planes) 255) 3 (both-inside (leb 1 (min (n .planes) 255)) (leb (min (n .planes) 255) 3) e .1))
+
+  counts-same : counts (min (n .planes) 255) ≡ counts (n .planes)
+  counts-same =
+      one-verdict (counts (min (n .planes) 255)) (counts (n .planes)) (λ e. sym (ap counts (uncut-too e)) ∙ e) (λ e. ap counts (uncut e) ∙ e)
+
+  module _ (first second third luma-room cb-room cr-room : ℕ) where
     abbrev readNumber : Readback → ℕ
-    readNumber r = readbackNo r luma second third luma-room cb-room cr-room
+    readNumber r = readbackNo r first second third luma-room cb-room cr-room
 
     few : min (n .planes) 255 ≡ n .planes → readNumber (readbackCut n) ≡ readNumber (readbackNamed n)
     unfolding lowest
@@ -189,31 +180,16 @@ module _ (n : ReadbackNumbers) where
         let rest =
         judged (shapes-narrowed count) 4
         (λ (r : Readback).
-        (6, leb (planeBytes (lumaShape r)) luma && leb (planeBytes (cbShape r)) second && leb (planeBytes (crShape r)) (crBytes r second third))
+        (6, leb (planeBytes (lumaShape r)) first && leb (planeBytes (cbShape r)) second && leb (planeBytes (crShape r)) (crBytes r second third))
         ∷ (7, leb (packedBytes (lumaShape r)) luma-room && leb (packedBytes (cbShape r)) cb-room && leb (packedBytes (crShape r)) cr-room)
         ∷ []) in
-        (λ i. cond (leb 1 (count i) && leb (count i) 3) (cond (leb 2 (count i)) (rest i) 2) 1)
-
-    -- more planes than a byte can count are too many, cut or not
-    many : 255 < n .planes → readNumber (readbackCut n) ≡ readNumber (readbackNamed n)
-    unfolding lowest
-    many h =
-        let count : min (n .planes) 255 ≡ 255 = omega arith in
-        let too-many : leb (n .planes) 3 ≡ false = lt-leb (n .planes) 3 (omega arith) in
-        let some : leb 1 (n .planes) ≡ true = le-leb 1 (n .planes) (omega arith) in
-        rw (count, some, too-many) refl
+        (λ i. cond (counts (count i)) (cond (leb 2 (count i)) (rest i) 2) 1)
 
     pub readback-number : readNumber (readbackCut n) ≡ readNumber (readbackNamed n)
-    readback-number = ⊎-elim (λ e. few (least e)) (λ e. many (leb-false (n .planes) 255 e)) (known (leb (n .planes) 255))
-      where
-        least : leb (n .planes) 255 ≡ true → min (n .planes) 255 ≡ n .planes
-        least e = omega (arith, leb-true (n .planes) 255 e)
+    readback-number = lowest-alike 1 _ _ counts-same (λ e. few (uncut e))
 
     pub readback-same : readNumber (readbackNamed n) ≡ 0 → readbackCut n ≡ readbackNamed n
+    unfolding rising
     readback-same done =
-        let counted = both-inside (leb 1 (n .planes)) (leb (n .planes) 3) (first-passes 1 _ _ (lit< tt) done) in
-        let past-chroma = rest-passes 2 _ _ (lit< tt) (rest-passes 1 _ _ (lit< tt) done) in
-        shapes-narrowed (few-planes (leb-true (n .planes) 3 (counted .1))) .from-given (first-passes 4 _ _ (lit< tt) past-chroma)
-      where
-        few-planes : n .planes ≤ 3 → min (n .planes) 255 ≡ n .planes
-        few-planes h = omega arith
+        let tests = all-pass (readbackTests (readbackNamed n) first second third luma-room cb-room cr-room) tt done in
+        shapes-narrowed (uncut (tests .0)) .from-given (tests .1 .1 .0)

@@ -1,15 +1,13 @@
 -- How a call ends that pushes a field: refused by the codes, the shapes or the state's length, refused by the weaver, or done.
-use Prim.Native.Nat.{ℕ, _≤_}
+use Prim.Native.Nat.{ℕ}
 use mathlib.Core.Path.{_≡_, refl, sym, ap, subst, _∙_}
 use mathlib.Core.Bool.{Bool, true, false, cond, _&&_}
 use mathlib.Core.List.{List, [], _∷_, nil≢cons}
-use native.Mathlib.Omega.{arith}
-use lib.Dec.{T, leb, ltb, ltb→lt}
+use lib.Dec.{leb}
 use lib.ListN.{length}
 use lib.IntN.{ℤ}
-use borrow.Author.Tests.{leb-true}
-use Rattle.laws.specs.Refusal.{lowest, whenDone}
-use Rattle.laws.proofs.Refusal.{done-equal, stays}
+use Rattle.laws.specs.Refusal.{lowest, rising, whenDone}
+use Rattle.laws.proofs.Refusal.{AllPass, all-pass, done-equal, stays}
 use Rattle.field.specs.declared.Parity.{Parity}
 use Rattle.weave.specs.declared.Field.{Field}
 use Rattle.weave.specs.Weave.{givenOf, goodField, chromaFits, whole, roomFor}
@@ -17,7 +15,7 @@ use Rattle.weaver.specs.declared.Time.{Time}
 use Rattle.weaver.specs.declared.Weaver.{Weaver}
 use Rattle.weaver.specs.declared.Paired.{Paired}
 use Rattle.weaver.specs.declared.Paired.the-variants as paired
-use Rattle.weaver.specs.Weaver.{fits, fieldBytes, keptField, keptBytes, pictureTimes, pushWeaver, pushStore, pushOut, pairedNo, pairedValues}
+use Rattle.weaver.specs.Weaver.{fits, fieldBytes, keptBytes, pictureTimes, pictureLuma, pictureCb, pictureCr, pushWeaver, pushStore, pushOut, pairedNo, pairedValues}
 use Rattle.weaver.specs.Weaver as weaver
 use Rattle.weavedesk.specs.declared.FieldNumbers.{FieldNumbers}
 use Rattle.weavedesk.specs.Woven.{fieldNamed}
@@ -29,11 +27,15 @@ use Rattle.weavedesk.proofs.Narrowed.{judged, field-narrowed}
 
 -- ---- a field is judged in two steps: the first gives 3, 4, 5, or 6 for the state, and the rest is the weaver's own number
 
-abbrev pub firstStep : Bool → Bool → Bool → Bool → ℕ
-firstStep named good halved state = lowest ((3, named) ∷ (4, good) ∷ (5, halved) ∷ (6, state) ∷ (7, true) ∷ (8, true) ∷ [])
+abbrev pub firstTests : Bool → Bool → Bool → Bool → List (ℕ × Bool)
+firstTests named good halved state = (3, named) ∷ (4, good) ∷ (5, halved) ∷ (6, state) ∷ []
 
-not-zero : (n : ℕ) → T (ltb 0 n) → n ≡ 0 → ⊥
-not-zero n t e = omega (arith, ltb→lt 0 n t)
+abbrev pub firstStep : Bool → Bool → Bool → Bool → ℕ
+firstStep named good halved state = lowest (firstTests named good halved state)
+
+pub first-each : (named good halved state : Bool) → firstStep named good halved state ≡ 0 → AllPass (firstTests named good halved state)
+unfolding rising
+first-each named good halved state h = all-pass (firstTests named good halved state) tt h
 
 module _ (bytes store : Bool) (tests : List (ℕ × Bool)) where
   first-step-refuses :
@@ -46,28 +48,12 @@ module _ (bytes store : Bool) (tests : List (ℕ × Bool)) where
   first-step-refuses true true true false h = refl
   first-step-refuses true true true true h = absurd (h refl)
 
-  first-step-passes :
-      (named good halved state : Bool) → firstStep named good halved state ≡ 0 →
-      lowest ((4, good) ∷ (5, halved) ∷ (6, bytes && store) ∷ tests)
-      ≡ lowest ((3, named) ∷ (4, good) ∷ (5, halved) ∷ (6, state && bytes && store) ∷ tests)
+  -- where the codes name something and the state is long enough, the number is the weaver's own
+  pub behind-first :
+      (named good halved state : Bool) → named ≡ true → state ≡ true →
+      lowest ((3, named) ∷ (4, good) ∷ (5, halved) ∷ (6, state && bytes && store) ∷ tests) ≡ lowest ((4, good) ∷ (5, halved) ∷ (6, bytes && store) ∷ tests)
   unfolding lowest
-  first-step-passes false good halved state h = absurd (not-zero 3 tt h)
-  first-step-passes true false halved state h = absurd (not-zero 4 tt h)
-  first-step-passes true true false state h = absurd (not-zero 5 tt h)
-  first-step-passes true true true false h = absurd (not-zero 6 tt h)
-  first-step-passes true true true true h = refl
-
--- and the state is then long enough
-state-passes : (named good halved state : Bool) → firstStep named good halved state ≡ 0 → state ≡ true
-unfolding lowest
-state-passes false good halved state h = absurd (not-zero 3 tt h)
-state-passes true false halved state h = absurd (not-zero 4 tt h)
-state-passes true true false state h = absurd (not-zero 5 tt h)
-state-passes true true true false h = absurd (not-zero 6 tt h)
-state-passes true true true true h = refl
-
-pub state-room : (named good halved : Bool) (room : ℕ) → firstStep named good halved (leb 56 room) ≡ 0 → 56 ≤ room
-state-room named good halved room h = leb-true 56 room (state-passes named good halved (leb 56 room) h)
+  behind-first named good halved state e f = rw (e, f)
 
 -- ---- the times that an answer of number 0 holds
 times-in : (a : Paired) (times : List Time) → pairedNo a ≡ 0 → pairedValues a ≡ whenDone (pairedNo a) times → timesIn a ≡ times
@@ -81,19 +67,13 @@ pub first-same :
     → firstStep named (goodField (fieldCut n)) (chromaFits (fieldCut n)) state ≡ firstStep named (goodField (fieldNamed n)) (chromaFits (fieldNamed n)) state
 unfolding lowest
 first-same n named state =
-    ap (λ (m : ℕ). cond named m 3) (judged (field-narrowed n) 4 (λ (f : Field). (5, chromaFits f) ∷ (6, state) ∷ (7, true) ∷ (8, true) ∷ []))
+    ap (λ (m : ℕ). cond named m 3) (judged (field-narrowed n) 4 (λ (f : Field). (5, chromaFits f) ∷ (6, state) ∷ []))
 
 -- and a field that passes it was not cut
-good-passes : (named good halved state : Bool) → firstStep named good halved state ≡ 0 → good ≡ true
-unfolding lowest
-good-passes false good halved state h = absurd (not-zero 3 tt h)
-good-passes true false halved state h = absurd (not-zero 4 tt h)
-good-passes true true halved state h = refl
-
 pub field-same :
     (n : FieldNumbers) (named state : Bool) → firstStep named (goodField (fieldNamed n)) (chromaFits (fieldNamed n)) state ≡ 0
     → fieldCut n ≡ fieldNamed n
-field-same n named state h = field-narrowed n .from-given (good-passes named (goodField (fieldNamed n)) (chromaFits (fieldNamed n)) state h)
+field-same n named state h = field-narrowed n .from-given (first-each named (goodField (fieldNamed n)) (chromaFits (fieldNamed n)) state h .1 .0)
 
 -- ---- the places that a call is lent, beside the state and the store
 pub record Places : Type 0 where
@@ -112,9 +92,9 @@ module _ (o : Offer) (l : Lent) (old : Places) where
       × ((pairedValues answer ≡ whenDone (pairedNo answer) (pictureTimes w f p))
       × ((after ≡ pushWeaver (pairedNo answer) w f p t)
       × ((store ≡ pushStore (pairedNo answer) w (givenOf f (o .luma) (o .cb) (o .cr)) p (l .store))
-      × ((luma ≡ pushOut (pairedNo answer) w f p (keptField w (l .store) .luma) (keptField w (l .store) .shape .luma) (o .luma) (f .luma) (old .out-luma))
-      × ((cb ≡ pushOut (pairedNo answer) w f p (keptField w (l .store) .cb) (keptField w (l .store) .shape .cb) (o .cb) (f .cb) (old .out-cb))
-      × (cr ≡ pushOut (pairedNo answer) w f p (keptField w (l .store) .cr) (keptField w (l .store) .shape .cr) (o .cr) (f .cr) (old .out-cr)))))))
+      × ((luma ≡ pushOut (pairedNo answer) w f p (pictureLuma w (l .store) (givenOf f (o .luma) (o .cb) (o .cr))) (old .out-luma))
+      × ((cb ≡ pushOut (pairedNo answer) w f p (pictureCb w (l .store) (givenOf f (o .luma) (o .cb) (o .cr))) (old .out-cb))
+      × (cr ≡ pushOut (pairedNo answer) w f p (pictureCr w (l .store) (givenOf f (o .luma) (o .cb) (o .cr))) (old .out-cr)))))))
 
   abbrev theField : Field
   theField = fieldNamed (o .shape)
@@ -167,10 +147,11 @@ module _ (o : Offer) (l : Lent) (old : Places) where
       (s : Said (weaverOf l) theField (parityIn o) (timeIn o) answer after store luma cb cr) {no : ℕ} (said : no ≡ pairedNo answer) where
     number : no ≡ pushNo l o
     number =
+        let each = first-each (leb (o .parity) 1 && leb (o .timed) 1) (goodField theField) (chromaFits theField) (leb 56 (length (l .state))) passed in
         said
         ∙ s .0
-        ∙ first-step-passes (whole (given o)) (leb (keptBytes (weaverOf l)) (length (l .store))) behind (leb (o .parity) 1 && leb (o .timed) 1)
-        (goodField theField) (chromaFits theField) (leb 56 (length (l .state))) passed
+        ∙ sym (behind-first (whole (given o)) (leb (keptBytes (weaverOf l)) (length (l .store))) behind (leb (o .parity) 1 && leb (o .timed) 1)
+        (goodField theField) (chromaFits theField) (leb 56 (length (l .state))) (each .0) (each .1 .1 .1 .0))
 
     -- the store and the outputs, whichever the number
     module _ {r : ℕ} (e : pairedNo answer ≡ r) where

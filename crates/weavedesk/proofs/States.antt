@@ -8,16 +8,17 @@ use native.Mathlib.Omega.{arith}
 use lib.Dec.{T, leb, eqb, ltb, ltb→lt, lit<}
 use lib.ListN.{getD}
 use lib.IntN.{ℤ, pos, negsuc}
-use Rattle.laws.proofs.Refusal.{first-passes, rest-passes}
+use Rattle.laws.specs.Refusal.{rising}
+use Rattle.laws.proofs.Refusal.{all-pass}
 use Rattle.field.specs.declared.Parity.{Parity}
 use Rattle.field.specs.declared.Parity.the-variants as parity
 use Rattle.field.specs.Field.{firstRowOf, parityNamed}
-use Rattle.plane.specs.Plane.{goodShape}
+use Rattle.plane.specs.Plane.{gridShape, goodShape}
 use Rattle.plane.proofs.Bounds.{good-within}
 use Rattle.plane.proofs.Coordinates.{both-inside}
 use Rattle.packed.specs.Packed.{numberAt}
 use Rattle.packed.proofs.Claims.{reads-back}
-use Rattle.weave.specs.Weave.{shapeOf, goodLines}
+use Rattle.weave.specs.Weave.{goodLines}
 use Rattle.weave.proofs.Judged.{each-of-three}
 use Rattle.weaver.specs.declared.Time.{Time}
 use Rattle.weaver.specs.declared.Time.the-variants as time
@@ -25,7 +26,7 @@ use Rattle.weaver.specs.declared.Weaver.{Weaver}
 use Rattle.weaver.specs.Weaver.{emptyWeaver, waitingFor, fits}
 use Rattle.weavedesk.specs.Woven.{flagNamed, flagNumber, fieldNamed}
 use Rattle.weavedesk.specs.Waiting.{wholeSize, timeKind, timeSize, timeOf, weaverNumbers, weaverIn, keeping}
-use Rattle.weavedesk.specs.Push.{weaverOf, parityIn, timeIn}
+use Rattle.weavedesk.specs.Push.{weaverOf, parityIn, timeIn, pushTests}
 use Rattle.weavedesk.specs.Claims.{Sized, FoundAgain, AlwaysSized, PushSized}
 
 -- ---- what a number stands for is read back
@@ -111,11 +112,12 @@ below : {n most : ℕ} (limit : ℕ) → n ≤ most → T (ltb most limit) → n
 below {n} {most} limit h t = omega (arith, ltb→lt most limit t)
 
 pub push-sized : PushSized
+unfolding rising
 push-sized l o done h =
     let f = fieldNamed (o .shape) in
-    let shapes = first-passes 4 _ _ (lit< tt) (rest-passes 3 _ _ (lit< tt) done) in
+    let shapes = all-pass (pushTests l o) tt done .1 .0 in
     let luma = each-of-three (goodLines (f .luma)) (goodLines (f .cb)) (goodLines (f .cr)) shapes .0 in
-    let w = good-within (shapeOf (f .luma)) (both-inside (goodShape (shapeOf (f .luma))) (leb (f .luma .height) 2176) luma .0) in
+    let w = good-within (gridShape (f .luma)) (both-inside (goodShape (gridShape (f .luma))) (leb (f .luma .height) 2176) luma .0) in
     either-sized (fits (weaverOf l) f (parityIn o)) emptyWeaver (waitingFor f (parityIn o) (timeIn o)) empty-sized
     record {
       width = below 65536 (w .width-most) tt;

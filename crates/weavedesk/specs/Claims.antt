@@ -6,19 +6,20 @@ use lib.IntN.{ℤ, pos}
 use lib.ListN.{length}
 use Rattle.laws.specs.Refusal.{lowest, Says}
 use Rattle.laws.specs.Rows.{over}
+use Rattle.numbers.specs.declared.GridNumbers.{GridNumbers}
+use Rattle.numbers.specs.Numbers.{gridNamed}
 use Rattle.weave.specs.Weave.{givenOf, weaveTests, lineTests}
 use Rattle.weaver.specs.declared.Weaver.{Weaver}
 use Rattle.weaver.specs.Weaver.{wovenBy}
 use Rattle.weaver.specs.History.{Sent, Waiting, none, waits, mateOf, waitingAfter, refusalTests, taken}
 use Rattle.readback.specs.Readback.{readbackTests}
-use Rattle.weavedesk.specs.declared.LinesNumbers.{LinesNumbers}
 use Rattle.weavedesk.specs.declared.FieldNumbers.{FieldNumbers}
 use Rattle.weavedesk.specs.declared.ReadbackNumbers.{ReadbackNumbers}
-use Rattle.weavedesk.specs.Woven.{linesNamed, fieldNamed, readbackNamed, lineOutTests}
+use Rattle.weavedesk.specs.Woven.{fieldNamed, readbackNamed, lineOutTests}
 use Rattle.weavedesk.specs.Waiting.{wholeSize, timeSize, weaverIn, keeping}
 use Rattle.weavedesk.specs.Push.{Lent, Offer, newTests, newNo, clearTests, clearNo, pushTests, pushNo}
 use Rattle.weavedesk.specs.Push.{weaverAfter, lumaAfter, cbAfter, crAfter, pictureAfter, timedAfter, timeAfter}
-use Rattle.weavedesk.specs.History.{Call, numberOf, next, after, linesMeant, fieldMeant, named, callsOf, timedOf, timeOf}
+use Rattle.weavedesk.specs.History.{Call, numberOf, next, after, gridMeant, fieldMeant, codesNamed, callsOf, timedOf, timeOf}
 
 -- ---- the numbers: 0 exactly when no number applies, and otherwise the lowest that does, of each call's own tests
 
@@ -32,10 +33,10 @@ WeaveSays =
 
 abbrev pub LineSays : Type 0
 LineSays =
-    (t : LinesNumbers) (top-bytes : ℕ) (b : LinesNumbers) (bottom-bytes y : ℕ) → Says (lineTests (linesNamed t) top-bytes (linesNamed b) bottom-bytes y)
+    (t : GridNumbers) (top-bytes : ℕ) (b : GridNumbers) (bottom-bytes y : ℕ) → Says (lineTests (gridNamed t) top-bytes (gridNamed b) bottom-bytes y)
 
 abbrev pub LineOutSays : Type 0
-LineOutSays = (t : LinesNumbers) (top-bytes : ℕ) (b : LinesNumbers) (bottom-bytes y room : ℕ) → Says (lineOutTests t top-bytes b bottom-bytes y room)
+LineOutSays = (t : GridNumbers) (top-bytes : ℕ) (b : GridNumbers) (bottom-bytes y room : ℕ) → Says (lineOutTests t top-bytes b bottom-bytes y room)
 
 abbrev pub ReadbackSays : Type 0
 ReadbackSays =
@@ -90,13 +91,13 @@ pub record Picture (l : Lent) (first : Sent) (o : Offer) : Type 0 where
   pub luma :
       (out : List ℕ)
       → lumaAfter (pushNo l o) l o out
-      ≡ over (wovenBy (first .parity) (first .field .luma) (first .field .shape .luma) (o .luma) (linesMeant (o .shape .luma))) out
+      ≡ over (wovenBy (first .parity) (first .field .luma) (first .field .shape .luma) (o .luma) (gridMeant (o .shape .luma))) out
   pub cb :
       (out : List ℕ)
-      → cbAfter (pushNo l o) l o out ≡ over (wovenBy (first .parity) (first .field .cb) (first .field .shape .cb) (o .cb) (linesMeant (o .shape .cb))) out
+      → cbAfter (pushNo l o) l o out ≡ over (wovenBy (first .parity) (first .field .cb) (first .field .shape .cb) (o .cb) (gridMeant (o .shape .cb))) out
   pub cr :
       (out : List ℕ)
-      → crAfter (pushNo l o) l o out ≡ over (wovenBy (first .parity) (first .field .cr) (first .field .shape .cr) (o .cr) (linesMeant (o .shape .cr))) out
+      → crAfter (pushNo l o) l o out ≡ over (wovenBy (first .parity) (first .field .cr) (first .field .shape .cr) (o .cr) (gridMeant (o .shape .cr))) out
 
 abbrev pub Gives : Waiting → Lent → Offer → Type 0
 Gives none l o = NoPicture l o
@@ -114,7 +115,7 @@ abbrev pub RefusalKnown : Type 0
 RefusalKnown =
     (state store : List ℕ) (o : Offer) (earlier : List Call) → 56 ≤ length state
     → pushNo (after state store earlier) o
-    ≡ lowest ((3, named o) ∷ refusalTests (length store) (fieldMeant o) (taken (length store) (callsOf earlier)))
+    ≡ lowest ((3, codesNamed o) ∷ refusalTests (length store) (fieldMeant o) (taken (length store) (callsOf earlier)))
 
 -- A refused call leaves the state and the store as they were, whatever they hold and however long they are,
 abbrev pub RefusedLeaves : Type 0

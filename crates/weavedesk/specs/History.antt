@@ -9,11 +9,11 @@ use lib.Dec.{leb, eqb}
 use lib.IntN.{ℤ, pos}
 use lib.ListN.{length}
 use Rattle.field.specs.declared.Parity.the-variants as parity
-use Rattle.weave.specs.declared.Lines.{Lines}
+use Rattle.plane.specs.declared.Grid.{Grid}
+use Rattle.numbers.specs.declared.GridNumbers.{GridNumbers}
 use Rattle.weaver.specs.declared.Time.{Time}
 use Rattle.weaver.specs.declared.Time.the-variants as time
 use Rattle.weaver.specs.History as calls
-use Rattle.weavedesk.specs.declared.LinesNumbers.{LinesNumbers}
 use Rattle.weavedesk.specs.Waiting.{wholeSize}
 use Rattle.weavedesk.specs.Push.{Lent, Offer, newNo, clearNo, emptied, pushNo, stateAfter, storeAfter}
 
@@ -50,14 +50,14 @@ pub record Pushed (l : Lent) (o : Offer) (given : ℕ) (state store : List ℕ) 
 
 -- ---- what the host means
 
-abbrev pub linesMeant : LinesNumbers → Lines
-linesMeant n = record { width = n .width; height = n .height; depth = n .depth; stride = n .stride }
+abbrev pub gridMeant : GridNumbers → Grid
+gridMeant n = record { width = n .width; height = n .height; depth = n .depth; stride = n .stride }
 
 -- Parity 0 is top, 1 bottom. Where `timed` is 0 the field has no time, where it is 1 it has this one. Each plane has its own numbers and bytes.
 abbrev pub fieldMeant : Offer → calls.Sent
 fieldMeant o = record {
   field = record {
-    shape = record { luma = linesMeant (o .shape .luma); cb = linesMeant (o .shape .cb); cr = linesMeant (o .shape .cr) };
+    shape = record { luma = gridMeant (o .shape .luma); cb = gridMeant (o .shape .cb); cr = gridMeant (o .shape .cr) };
     luma = o .luma;
     cb = o .cb;
     cr = o .cr;
@@ -70,14 +70,14 @@ fieldMeant o = record {
 }
 
 -- the codes name something
-abbrev pub named : Offer → Bool
-named o = leb (o .parity) 1 && leb (o .timed) 1
+abbrev pub codesNamed : Offer → Bool
+codesNamed o = leb (o .parity) 1 && leb (o .timed) 1
 
 -- the weaver's calls since the last `new` that the desk's stand for; one whose codes name nothing gets 3 and stands for none
 abbrev pub callsOf : List Call → List calls.Call
 callsOf [] = []
 callsOf (new ∷ earlier) = []
-callsOf (push o _ ∷ earlier) = cond (named o) (calls.push (fieldMeant o) ∷ callsOf earlier) (callsOf earlier)
+callsOf (push o _ ∷ earlier) = cond (codesNamed o) (calls.push (fieldMeant o) ∷ callsOf earlier) (callsOf earlier)
 callsOf (clear ∷ earlier) = calls.clear ∷ callsOf earlier
 
 -- how a time is handed back: 1 and the time, or 0 and 0

@@ -2,22 +2,19 @@
 -- this file.
 use Prim.Native.Nat.{min}
 use mathlib.Core.List.{List, [], _∷_}
-use Rattle.weave.specs.declared.Lines.{Lines}
+use Rattle.numbers.specs.Numbers.{gridNamed}
+use Rattle.numbers.specs.Inner.{cutGrid}
 use Rattle.weave.specs.declared.Field.{Field}
 use Rattle.readback.specs.declared.Readback.{Readback}
 use Rattle.weaver.specs.declared.Time.{Time}
 use Rattle.weaver.specs.declared.Paired.{Paired}
 use Rattle.weaver.specs.declared.Paired.the-variants as paired
-use Rattle.weavedesk.specs.declared.LinesNumbers.{LinesNumbers}
 use Rattle.weavedesk.specs.declared.FieldNumbers.{FieldNumbers}
 use Rattle.weavedesk.specs.declared.ReadbackNumbers.{ReadbackNumbers}
 
 -- A number too large for its place is taken for the largest there, which is out of bounds too; proofs/Narrowed.antt shows that no answer changes.
-abbrev pub linesCut : LinesNumbers → Lines
-linesCut n = record { width = min (n .width) 65535; height = min (n .height) 65535; depth = min (n .depth) 255; stride = n .stride }
-
 abbrev pub fieldCut : FieldNumbers → Field
-fieldCut n = record { luma = linesCut (n .luma); cb = linesCut (n .cb); cr = linesCut (n .cr) }
+fieldCut n = record { luma = cutGrid (gridNamed (n .luma)); cb = cutGrid (gridNamed (n .cb)); cr = cutGrid (gridNamed (n .cr)) }
 
 abbrev pub readbackCut : ReadbackNumbers → Readback
 readbackCut n = record {

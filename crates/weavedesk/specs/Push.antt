@@ -15,7 +15,7 @@ use Rattle.weave.specs.Weave.{Given, givenOf, goodField, chromaFits, whole, roo
 use Rattle.weaver.specs.declared.Time.{Time}
 use Rattle.weaver.specs.declared.Time.the-variants as time
 use Rattle.weaver.specs.declared.Weaver.{Weaver}
-use Rattle.weaver.specs.Weaver.{emptyWeaver, fits, fieldBytes, keptField, keptBytes, pictureTimes, pushWeaver, pushStore, pushOut}
+use Rattle.weaver.specs.Weaver.{emptyWeaver, fits, fieldBytes, keptBytes, pictureTimes, pictureLuma, pictureCb, pictureCr, pushWeaver, pushStore, pushOut}
 use Rattle.weavedesk.specs.declared.FieldNumbers.{FieldNumbers}
 use Rattle.weavedesk.specs.Woven.{fieldNamed}
 use Rattle.weavedesk.specs.Waiting.{stateBytes, weaverIn, keeping}
@@ -132,19 +132,13 @@ storeAfter number l o = pushStore number (weaverOf l) (given o) (parityIn o) (l 
 
 -- the three outputs, of lists that are lent for them
 abbrev pub lumaAfter : ℕ → Lent → Offer → List ℕ → List ℕ
-lumaAfter number l o out =
-    let kept = keptField (weaverOf l) (l .store) in
-    pushOut number (weaverOf l) (fieldNamed (o .shape)) (parityIn o) (kept .luma) (kept .shape .luma) (o .luma) (fieldNamed (o .shape) .luma) out
+lumaAfter number l o out = pushOut number (weaverOf l) (fieldNamed (o .shape)) (parityIn o) (pictureLuma (weaverOf l) (l .store) (given o)) out
 
 abbrev pub cbAfter : ℕ → Lent → Offer → List ℕ → List ℕ
-cbAfter number l o out =
-    let kept = keptField (weaverOf l) (l .store) in
-    pushOut number (weaverOf l) (fieldNamed (o .shape)) (parityIn o) (kept .cb) (kept .shape .cb) (o .cb) (fieldNamed (o .shape) .cb) out
+cbAfter number l o out = pushOut number (weaverOf l) (fieldNamed (o .shape)) (parityIn o) (pictureCb (weaverOf l) (l .store) (given o)) out
 
 abbrev pub crAfter : ℕ → Lent → Offer → List ℕ → List ℕ
-crAfter number l o out =
-    let kept = keptField (weaverOf l) (l .store) in
-    pushOut number (weaverOf l) (fieldNamed (o .shape)) (parityIn o) (kept .cr) (kept .shape .cr) (o .cr) (fieldNamed (o .shape) .cr) out
+crAfter number l o out = pushOut number (weaverOf l) (fieldNamed (o .shape)) (parityIn o) (pictureCr (weaverOf l) (l .store) (given o)) out
 
 -- the time that comes with the picture, if there is a picture
 abbrev pub timesGiven : Lent → Offer → List Time

@@ -4,30 +4,32 @@ use Prim.Native.Nat.{ℕ}
 use mathlib.Core.Bool.{Bool, true, false, not}
 use mathlib.Core.List.{List, [], _∷_, _++_}
 use lib.Dec.{leb, eqb}
-use Rattle.laws.specs.Refusal.{lowest}
-use Rattle.weave.specs.declared.Lines.{Lines}
+use Rattle.laws.specs.Refusal.{lowest, written}
+use Rattle.laws.specs.Rows.{over}
+use Rattle.numbers.specs.declared.GridNumbers.{GridNumbers}
+use Rattle.numbers.specs.Numbers.{gridNamed}
 use Rattle.weave.specs.declared.Field.{Field}
 use Rattle.weave.specs.declared.Format.{Format}
-use Rattle.weave.specs.Weave.{lineBytes, lineTests}
+use Rattle.weave.specs.Weave.{lineBytes, wovenLine, lineTests}
 use Rattle.readback.specs.declared.Readback.{Readback}
-use Rattle.weavedesk.specs.declared.LinesNumbers.{LinesNumbers}
 use Rattle.weavedesk.specs.declared.FieldNumbers.{FieldNumbers}
 use Rattle.weavedesk.specs.declared.FormatNumbers.{FormatNumbers}
 use Rattle.weavedesk.specs.declared.ReadbackNumbers.{ReadbackNumbers}
 
-abbrev pub linesNamed : LinesNumbers → Lines
-linesNamed n = record { width = n .width; height = n .height; depth = n .depth; stride = n .stride }
-
 abbrev pub fieldNamed : FieldNumbers → Field
-fieldNamed n = record { luma = linesNamed (n .luma); cb = linesNamed (n .cb); cr = linesNamed (n .cr) }
+fieldNamed n = record { luma = gridNamed (n .luma); cb = gridNamed (n .cb); cr = gridNamed (n .cr) }
 
 -- The line's bytes go to an output: 7 also where it is too short for them. The four numbers before it are those of the line.
-abbrev pub lineOutTests : LinesNumbers → ℕ → LinesNumbers → ℕ → ℕ → ℕ → List (ℕ × Bool)
+abbrev pub lineOutTests : GridNumbers → ℕ → GridNumbers → ℕ → ℕ → ℕ → List (ℕ × Bool)
 lineOutTests t top-bytes b bottom-bytes y room =
-    lineTests (linesNamed t) top-bytes (linesNamed b) bottom-bytes y ++ ((7, leb (lineBytes (linesNamed t)) room) ∷ [])
+    lineTests (gridNamed t) top-bytes (gridNamed b) bottom-bytes y ++ ((7, leb (lineBytes (gridNamed t)) room) ∷ [])
 
-abbrev pub lineOutNo : LinesNumbers → ℕ → LinesNumbers → ℕ → ℕ → ℕ → ℕ
+abbrev pub lineOutNo : GridNumbers → ℕ → GridNumbers → ℕ → ℕ → ℕ → ℕ
 lineOutNo t top-bytes b bottom-bytes y room = lowest (lineOutTests t top-bytes b bottom-bytes y room)
+
+-- what the output holds after a call that gets this number
+abbrev pub lineAfter : ℕ → List ℕ → GridNumbers → List ℕ → GridNumbers → ℕ → List ℕ → List ℕ
+lineAfter number top t bottom b y out = written number (over (wovenLine top (gridNamed t) bottom (gridNamed b) y) out) out
 
 -- a flag is 0 or any other number
 abbrev pub flagNamed : ℕ → Bool

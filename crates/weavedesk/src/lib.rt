@@ -4,6 +4,7 @@
 // that none can wrap into the bounds. Between calls the host keeps the weaver in 56 bytes that it
 // lends.
 use field::Parity;
+use numbers::GridNumbers;
 use weaver::Paired;
 use weaver::Time;
 use weaver::Weaver;
@@ -11,36 +12,22 @@ ghost use mathlib.Core.Path.{_≡_};
 ghost use mathlib.Core.List.{[], _∷_};
 ghost use Prim.Native.Nat.{_%_, _≤_};
 ghost use lib.ListN.{length};
-ghost use Rattle.laws.specs.Refusal.{written};
-ghost use Rattle.laws.specs.Rows.{over};
 ghost use Rattle.field.specs.Field.{parityNamed};
-ghost use Rattle.weave.specs.Weave.{givenOf, wovenPlane, wovenLine, weaveNo, lineNo, wovenFormat};
-ghost use Rattle.readback.specs.Readback.{lumaShape, cbShape, crShape, crBytes, readbackNo, copiedOf};
+ghost use Rattle.numbers.specs.Numbers.{gridNamed};
+ghost use Rattle.weave.specs.Weave.{lentField, weaveNoOf, wovenAfter, lineNo, wovenFormat};
+ghost use Rattle.readback.specs.Readback.{lumaShape, cbShape, crShape, crBytes, readbackNoOf, copiedAfter};
 ghost use Rattle.weaver.specs.Weaver.{pairedNo};
-ghost use Rattle.weavedesk.specs.Woven.{linesNamed, fieldNamed, lineOutNo, formatNamed, formatNumbers, readbackNamed, flagNamed, flagNumber};
+ghost use Rattle.weavedesk.specs.Woven.{fieldNamed, lineOutNo, lineAfter, formatNamed, formatNumbers, readbackNamed, flagNamed, flagNumber};
 ghost use Rattle.weavedesk.specs.Waiting.{keeping, weaverIn, weaverNumbers, timeOf, wholeKind, wholeSize, timeKind, timeSize};
 ghost use Rattle.weavedesk.specs.Push.{lent, offer, newNo, clearNo, emptied, timeNamed, pushNo, stateAfter, storeAfter, lumaAfter, cbAfter, crAfter, pictureNumber, timedNumber, timeNumber, pictureAfter, timedAfter, timeAfter};
-ghost use Rattle.weavedesk.specs.Inner.{linesCut, fieldCut, readbackCut, timesIn};
+ghost use Rattle.weavedesk.specs.Inner.{fieldCut, readbackCut, timesIn};
 
-// The lines of a plane of a field: sizes in samples, the stride in bytes. Any numbers may stand here; a
-// call refuses those outside the bounds.
-#[repr(C)]
-pub struct LinesNumbers {
-    pub width: u32,
-    // Lines of the field: at most 2,176.
-    pub height: u32,
-    // Bits of a sample.
-    pub depth: u32,
-    // Bytes from one line to the next.
-    pub stride: u32,
-}
-
-// The three planes of a field.
+// The three planes of a field, whose lines are at most 2,176.
 #[repr(C)]
 pub struct FieldNumbers {
-    pub luma: LinesNumbers,
-    pub cb: LinesNumbers,
-    pub cr: LinesNumbers,
+    pub luma: GridNumbers,
+    pub cb: GridNumbers,
+    pub cr: GridNumbers,
 }
 
 // What is said of a stream's pictures. The last three are 0 or 1.
@@ -72,26 +59,12 @@ pub struct ReadbackNumbers {
 
 // Numbers narrowed for the crates beneath. One that is too large for its place becomes the largest
 // there, which is out of bounds too, so that it is refused all the same.
-fn lines_cut(lines: LinesNumbers) -> weave::Lines
-    ensures { λ r. ⌜ r ≡ linesCut lines ⌝ }
-{
-    let width = numbers::at_most_65535(lines.width);
-    let height = numbers::at_most_65535(lines.height);
-    let depth = numbers::at_most_255(lines.depth);
-    weave::Lines {
-        width: width,
-        height: height,
-        depth: depth,
-        stride: lines.stride,
-    }
-}
-
 fn field_cut(n: FieldNumbers) -> weave::Field
     ensures { λ r. ⌜ r ≡ fieldCut n ⌝ }
 {
-    let luma = lines_cut(n.luma);
-    let cb = lines_cut(n.cb);
-    let cr = lines_cut(n.cr);
+    let luma = numbers::grid_named(n.luma);
+    let cb = numbers::grid_named(n.cb);
+    let cr = numbers::grid_named(n.cr);
     weave::Field {
         luma: luma,
         cb: cb,
@@ -365,10 +338,10 @@ pub extern "C" fn desk_weave(
     out_cb: &mut [u8],
     out_cr: &mut [u8],
 ) -> u8
-    ensures { λ r. ⌜ r ≡ weaveNo (givenOf (fieldNamed top) (now («top_luma» .entry)) (now («top_cb» .entry)) (now («top_cr» .entry))) (givenOf (fieldNamed bottom) (now («bottom_luma» .entry)) (now («bottom_cb» .entry)) (now («bottom_cr» .entry))) (length (now («out_luma» .entry))) (length (now («out_cb» .entry))) (length (now («out_cr» .entry))) ⌝ }
-    ensures { λ r. ⌜ now («out_luma» .exit) ≡ written r (over (wovenPlane (now («top_luma» .entry)) (linesNamed (top .luma)) (now («bottom_luma» .entry)) (linesNamed (bottom .luma))) (now («out_luma» .entry))) (now («out_luma» .entry)) ⌝ }
-    ensures { λ r. ⌜ now («out_cb» .exit) ≡ written r (over (wovenPlane (now («top_cb» .entry)) (linesNamed (top .cb)) (now («bottom_cb» .entry)) (linesNamed (bottom .cb))) (now («out_cb» .entry))) (now («out_cb» .entry)) ⌝ }
-    ensures { λ r. ⌜ now («out_cr» .exit) ≡ written r (over (wovenPlane (now («top_cr» .entry)) (linesNamed (top .cr)) (now («bottom_cr» .entry)) (linesNamed (bottom .cr))) (now («out_cr» .entry))) (now («out_cr» .entry)) ⌝ }
+    ensures { λ r. ⌜ r ≡ weaveNoOf (lentField (fieldNamed top) «top_luma» «top_cb» «top_cr») (lentField (fieldNamed bottom) «bottom_luma» «bottom_cb» «bottom_cr») «out_luma» «out_cb» «out_cr» ⌝ }
+    ensures { λ r. ⌜ now («out_luma» .exit) ≡ wovenAfter r (now («top_luma» .entry)) (gridNamed (top .luma)) (now («bottom_luma» .entry)) (gridNamed (bottom .luma)) (now («out_luma» .entry)) ⌝ }
+    ensures { λ r. ⌜ now («out_cb» .exit) ≡ wovenAfter r (now («top_cb» .entry)) (gridNamed (top .cb)) (now («bottom_cb» .entry)) (gridNamed (bottom .cb)) (now («out_cb» .entry)) ⌝ }
+    ensures { λ r. ⌜ now («out_cr» .exit) ≡ wovenAfter r (now («top_cr» .entry)) (gridNamed (top .cr)) (now («bottom_cr» .entry)) (gridNamed (bottom .cr)) (now («out_cr» .entry)) ⌝ }
 {
     weave::weave(
         out_luma,
@@ -388,21 +361,21 @@ pub extern "C" fn desk_weave(
 // The number of a single line. It is outside by the height as given, which may be too large for its
 // place. Where it is inside, line 0 is too, and the numbers behind 3 are the same of every line.
 fn line_number(
-    top: LinesNumbers,
+    top: GridNumbers,
     top_bytes: usize,
-    bottom: LinesNumbers,
+    bottom: GridNumbers,
     bottom_bytes: usize,
     y: u32,
 ) -> u8
-    ensures { λ r. ⌜ r ≡ lineNo (linesNamed top) «top_bytes» (linesNamed bottom) «bottom_bytes» y ⌝ }
+    ensures { λ r. ⌜ r ≡ lineNo (gridNamed top) «top_bytes» (gridNamed bottom) «bottom_bytes» y ⌝ }
 {
     if (top.height as u64) * 2 <= y as u64 {
         return refusal::OUTSIDE;
     }
     weave::line_no(
-        lines_cut(top),
+        numbers::grid_named(top),
         top_bytes,
-        lines_cut(bottom),
+        numbers::grid_named(bottom),
         bottom_bytes,
         0,
     )
@@ -411,41 +384,29 @@ fn line_number(
 // The number of a single woven line, from the lengths of the two planes. Numbers 3 to 6.
 #[no_mangle]
 pub extern "C" fn desk_line_number(
-    top: LinesNumbers,
+    top: GridNumbers,
     top_bytes: u64,
-    bottom: LinesNumbers,
+    bottom: GridNumbers,
     bottom_bytes: u64,
     y: u32,
 ) -> u8
-    ensures { λ r. ⌜ r ≡ lineNo (linesNamed top) «top_bytes» (linesNamed bottom) «bottom_bytes» y ⌝ }
+    ensures { λ r. ⌜ r ≡ lineNo (gridNamed top) «top_bytes» (gridNamed bottom) «bottom_bytes» y ⌝ }
 {
     line_number(top, top_bytes as usize, bottom, bottom_bytes as usize, y)
-}
-
-// Copies a line to the front of an output that has room for it.
-fn copy(out: &mut [u8], line: &[u8])
-    requires { ⌜ length (now line) ≤ length (now out) ⌝ }
-    ensures { λ _. ⌜ now (out .exit) ≡ over (now (line .entry)) (now (out .entry)) ⌝ }
-{
-    let mut i = 0;
-    while i < line.len() {
-        out[i] = line[i];
-        i += 1;
-    }
 }
 
 // The bytes of a single woven line, copied out. Numbers 3 to 7.
 #[no_mangle]
 pub extern "C" fn desk_woven_line<'a>(
     top: &'a [u8],
-    top_lines: LinesNumbers,
+    top_lines: GridNumbers,
     bottom: &'a [u8],
-    bottom_lines: LinesNumbers,
+    bottom_lines: GridNumbers,
     y: u32,
     out: &mut [u8],
 ) -> u8
     ensures { λ r. ⌜ r ≡ lineOutNo «top_lines» (length (now (top .entry))) «bottom_lines» (length (now (bottom .entry))) y (length (now (out .entry))) ⌝ }
-    ensures { λ r. ⌜ now (out .exit) ≡ written r (over (wovenLine (now (top .entry)) (linesNamed «top_lines») (now (bottom .entry)) (linesNamed «bottom_lines») y) (now (out .entry))) (now (out .entry)) ⌝ }
+    ensures { λ r. ⌜ now (out .exit) ≡ lineAfter r (now (top .entry)) «top_lines» (now (bottom .entry)) «bottom_lines» y (now (out .entry)) ⌝ }
 {
     let no = line_number(top_lines, top.len(), bottom_lines, bottom.len(), y);
     if no != 0 {
@@ -453,15 +414,15 @@ pub extern "C" fn desk_woven_line<'a>(
     }
     let line = weave::woven_line(
         top,
-        lines_cut(top_lines),
+        numbers::grid_named(top_lines),
         bottom,
-        lines_cut(bottom_lines),
+        numbers::grid_named(bottom_lines),
         y,
     );
     if out.len() < line.len() {
         return refusal::SHORT_OUTPUT;
     }
-    copy(out, line);
+    copy::copy_front(out, line);
     0
 }
 
@@ -488,10 +449,10 @@ pub extern "C" fn desk_readback(
     out_cb: &mut [u8],
     out_cr: &mut [u8],
 ) -> u8
-    ensures { λ r. ⌜ r ≡ readbackNo (readbackNamed about) (length (now (luma .entry))) (length (now (second .entry))) (length (now (third .entry))) (length (now («out_luma» .entry))) (length (now («out_cb» .entry))) (length (now («out_cr» .entry))) ⌝ }
-    ensures { λ r. ⌜ now («out_luma» .exit) ≡ written r (over (copiedOf (now (luma .entry)) (lumaShape (readbackNamed about))) (now («out_luma» .entry))) (now («out_luma» .entry)) ⌝ }
-    ensures { λ r. ⌜ now («out_cb» .exit) ≡ written r (over (copiedOf (now (second .entry)) (cbShape (readbackNamed about))) (now («out_cb» .entry))) (now («out_cb» .entry)) ⌝ }
-    ensures { λ r. ⌜ now («out_cr» .exit) ≡ written r (over (copiedOf (crBytes (readbackNamed about) (now (second .entry)) (now (third .entry))) (crShape (readbackNamed about))) (now («out_cr» .entry))) (now («out_cr» .entry)) ⌝ }
+    ensures { λ r. ⌜ r ≡ readbackNoOf (readbackNamed about) luma second third «out_luma» «out_cb» «out_cr» ⌝ }
+    ensures { λ r. ⌜ now («out_luma» .exit) ≡ copiedAfter r (now (luma .entry)) (lumaShape (readbackNamed about)) (now («out_luma» .entry)) ⌝ }
+    ensures { λ r. ⌜ now («out_cb» .exit) ≡ copiedAfter r (now (second .entry)) (cbShape (readbackNamed about)) (now («out_cb» .entry)) ⌝ }
+    ensures { λ r. ⌜ now («out_cr» .exit) ≡ copiedAfter r (crBytes (readbackNamed about) (now (second .entry)) (now (third .entry))) (crShape (readbackNamed about)) (now («out_cr» .entry)) ⌝ }
 {
     readback::frame_of_readback(
         out_luma,
@@ -568,7 +529,23 @@ pub extern "C" fn desk_weaver_push(
     let given = field_cut(shape);
     let good = weave::good_field(given);
     let halved = weave::chroma_fits(given);
-    let refused = refusal::lowest_of(named, good, halved, STATE_BYTES <= state.len(), true, true);
+    let refused = refusal::test(
+        refusal::OUTSIDE,
+        named,
+        refusal::test(
+            refusal::SHAPE,
+            good,
+            refusal::test(
+                refusal::DIFFER,
+                halved,
+                refusal::test(
+                    refusal::SHORT_INPUT,
+                    STATE_BYTES <= state.len(),
+                    refusal::DONE,
+                ),
+            ),
+        ),
+    );
     if refused != 0 {
         return refused;
     }
@@ -578,7 +555,7 @@ pub extern "C" fn desk_weaver_push(
         luma,
         cb,
         cr,
-        Parity::named(parity as u32),
+        Parity::named(parity as u64),
         time_named(timed, time),
         store,
         out_luma,

@@ -10,18 +10,18 @@ use Rattle.laws.specs.Refusal.{lowest, whenDone, written}
 use Rattle.laws.specs.Rows.{over}
 use Rattle.field.specs.declared.Parity.{Parity}
 use Rattle.field.specs.declared.Parity.the-variants.{Top, Bottom}
-use Rattle.weave.specs.declared.Lines.{Lines}
+use Rattle.plane.specs.declared.Grid.{Grid}
 use Rattle.weave.specs.Weave.{Given, wovenPlane}
 use Rattle.weaver.specs.declared.Time.{Time}
 use Rattle.weaver.specs.declared.Weaver.{Weaver}
 use Rattle.weaver.specs.declared.Paired.{Paired}
 use Rattle.weaver.specs.declared.Paired.the-variants as paired
-use Rattle.weaver.specs.Weaver.{packedField, emptyWeaver, waitingFor, keptField, fits, wovenBy}
-use Rattle.weaver.specs.Weaver.{pushNo, pairedNo, pairedValues, pictureTimes, pushWeaver, pushStore, pushOut}
-use Rattle.weaver.proofs.Judged.{testsOf}
+use Rattle.weaver.specs.Weaver.{packedField, emptyWeaver, waitingFor, fits, wovenBy}
+use Rattle.weaver.specs.Weaver.{pushNo, pairedNo, pairedValues, pictureTimes, pictureLuma, pictureCb, pictureCr, pushWeaver, pushStore, pushOut}
+use Rattle.weaver.proofs.Judged.{tests}
 
 -- ---- a plane of a pair, by the parity of the field that waited
-module _ (first : List ℕ) (f : Lines) (second : List ℕ) (s : Lines) (out : List ℕ) {n : ℕ} {parity : Parity} {got : List ℕ} where
+module _ (first : List ℕ) (f : Grid) (second : List ℕ) (s : Grid) (out : List ℕ) {n : ℕ} {parity : Parity} {got : List ℕ} where
   pub kept-on-top :
       parity ≡ Top → n ≡ 0 → got ≡ written n (over (wovenPlane first f second s) out) out → got ≡ over (wovenBy parity first f second s) out
   kept-on-top told z e =
@@ -41,22 +41,22 @@ module _ (w : Weaver) (g : Given) (parity : Parity) (time : Time) (store luma cb
       × ((pairedValues answer ≡ whenDone (pairedNo answer) (pictureTimes w (g .shape) parity))
       × ((weaver ≡ pushWeaver (pairedNo answer) w (g .shape) parity time)
       × ((store′ ≡ pushStore (pairedNo answer) w g parity store)
-      × ((luma′ ≡ pushOut (pairedNo answer) w (g .shape) parity (keptField w store .luma) (keptField w store .shape .luma) (g .luma) (g .shape .luma) luma)
-      × ((cb′ ≡ pushOut (pairedNo answer) w (g .shape) parity (keptField w store .cb) (keptField w store .shape .cb) (g .cb) (g .shape .cb) cb)
-      × (cr′ ≡ pushOut (pairedNo answer) w (g .shape) parity (keptField w store .cr) (keptField w store .shape .cr) (g .cr) (g .shape .cr) cr))))))
+      × ((luma′ ≡ pushOut (pairedNo answer) w (g .shape) parity (pictureLuma w store g) luma)
+      × ((cb′ ≡ pushOut (pairedNo answer) w (g .shape) parity (pictureCb w store g) cb)
+      × (cr′ ≡ pushOut (pairedNo answer) w (g .shape) parity (pictureCr w store g) cr))))))
 
-  module _ {picture : Bool} (fit : picture ≡ fits w (g .shape) parity) {n : ℕ} (judged : n ≡ lowest (testsOf w g picture (length store) (length luma) (length cb) (length cr))) where
+  module _ {picture : Bool} (fit : picture ≡ fits w (g .shape) parity) {n : ℕ} (judged : n ≡ lowest (tests w g picture (length store) (length luma) (length cb) (length cr))) where
     number : n ≡ pushNo w g parity (length store) (length luma) (length cb) (length cr)
-    number = judged ∙ ap (λ (b : Bool). lowest (testsOf w g b (length store) (length luma) (length cb) (length cr))) fit
+    number = judged ∙ ap (λ (b : Bool). lowest (tests w g b (length store) (length luma) (length cb) (length cr))) fit
 
     pub refused : (n ≡ 0 → ⊥) → Promised w (paired.Refused n) store luma cb cr
     refused h = (number, (simp (ne-eqb n 0 h), (stays _ _ h, (stays _ _ h, (stays _ _ h, (stays _ _ h, stays _ _ h))))))
 
     pub pictured :
         {new : Weaver} {luma′ cb′ cr′ : List ℕ} → n ≡ 0 → picture ≡ true → new ≡ emptyWeaver
-        → luma′ ≡ over (wovenBy (w .parity) (keptField w store .luma) (keptField w store .shape .luma) (g .luma) (g .shape .luma)) luma
-        → cb′ ≡ over (wovenBy (w .parity) (keptField w store .cb) (keptField w store .shape .cb) (g .cb) (g .shape .cb)) cb
-        → cr′ ≡ over (wovenBy (w .parity) (keptField w store .cr) (keptField w store .shape .cr) (g .cr) (g .shape .cr)) cr
+        → luma′ ≡ over (pictureLuma w store g) luma
+        → cb′ ≡ over (pictureCb w store g) cb
+        → cr′ ≡ over (pictureCr w store g) cr
         → Promised new (paired.Picture (w .time)) store luma′ cb′ cr′
     pictured {new} {luma′} {cb′} {cr′} z taken empty l b r =
         let yes : fits w (g .shape) parity ≡ true = sym fit ∙ taken in (

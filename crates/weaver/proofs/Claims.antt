@@ -7,17 +7,16 @@ use lib.ListN.{length}
 use Rattle.laws.specs.Refusal.{rising, written}
 use Rattle.laws.specs.Rows.{over}
 use Rattle.laws.proofs.Claims.{lowest-says}
-use Rattle.plane.specs.Plane.{half}
+use Rattle.plane.specs.Plane.{gridShape, half}
 use Rattle.plane.proofs.Coordinates.{both-inside}
 use Rattle.field.specs.declared.Parity.{Parity}
-use Rattle.weave.specs.declared.Lines.{Lines}
 use Rattle.weave.specs.declared.Field.{Field}
-use Rattle.weave.specs.Weave.{shapeOf, fieldsAgree}
+use Rattle.weave.specs.Weave.{fieldsAgree}
 use Rattle.weave.proofs.Fields.{alike-in}
 use Rattle.weaver.specs.declared.Time.{Time}
 use Rattle.weaver.specs.declared.Weaver.{Weaver}
 use Rattle.weaver.specs.declared.Paired.the-variants as paired
-use Rattle.weaver.specs.Weaver.{keptField, wovenBy, opposite, fits, pushTests, pushOut}
+use Rattle.weaver.specs.Weaver.{keptField, wovenBy, opposite, fits, pushTests, pictureLuma, pictureCb, pictureCr, pushOut}
 use Rattle.weaver.specs.History.{Sent, State, numberIn, after, Waiting, none, waits, mates, mateOf, waitingAfter, taken}
 use Rattle.weaver.specs.Claims.{PushSays, OnePaired, RefusedLeaves, RefusalKnown, NoPicture, Picture, Gives, PairsWoven}
 use Rattle.weaver.proofs.Packed.{Sound}
@@ -60,24 +59,23 @@ refusal-known store f earlier =
     number-known (length store) (after store earlier) (waitingAfter (taken (length store) earlier)) (any-held store earlier) f
 
 -- what an output holds without a picture, and with one
-module _ (n : ℕ) (w : Weaver) (shape : Field) (parity : Parity) (first : List ℕ) (l : Lines) (second : List ℕ) (s : Lines) (out : List ℕ) (z : n ≡ 0) where
-  stays : fits w shape parity ≡ false → pushOut n w shape parity first l second s out ≡ out
-  stays e = λ i. written (z i) (cond (e i) (over (wovenBy (w .parity) first l second s) out) out) out
+module _ (n : ℕ) (w : Weaver) (shape : Field) (parity : Parity) (plane out : List ℕ) (z : n ≡ 0) where
+  stays : fits w shape parity ≡ false → pushOut n w shape parity plane out ≡ out
+  stays e = λ i. written (z i) (cond (e i) (over plane out) out) out
 
-  woven : fits w shape parity ≡ true → pushOut n w shape parity first l second s out ≡ over (wovenBy (w .parity) first l second s) out
-  woven e = λ i. written (z i) (cond (e i) (over (wovenBy (w .parity) first l second s) out) out) out
+  woven : fits w shape parity ≡ true → pushOut n w shape parity plane out ≡ over plane out
+  woven e = λ i. written (z i) (cond (e i) (over plane out) out) out
 
 -- a field without a mate
 no-picture : (state : State) (f : Sent) → fits (state .weaver) (f .field .shape) (f .parity) ≡ false → numberIn state f ≡ 0 → NoPicture state f
 no-picture state f e z =
     let w = state .weaver in
-    let k = keptField w (state .store) in
     let g = f .field in
     record {
       times = λ i. cond (e i) (w .time ∷ []) [];
-      luma = λ out. stays (numberIn state f) w (g .shape) (f .parity) (k .luma) (k .shape .luma) (g .luma) (g .shape .luma) out z e;
-      cb = λ out. stays (numberIn state f) w (g .shape) (f .parity) (k .cb) (k .shape .cb) (g .cb) (g .shape .cb) out z e;
-      cr = λ out. stays (numberIn state f) w (g .shape) (f .parity) (k .cr) (k .shape .cr) (g .cr) (g .shape .cr) out z e;
+      luma = λ out. stays (numberIn state f) w (g .shape) (f .parity) (pictureLuma w (state .store) g) out z e;
+      cb = λ out. stays (numberIn state f) w (g .shape) (f .parity) (pictureCb w (state .store) g) out z e;
+      cr = λ out. stays (numberIn state f) w (g .shape) (f .parity) (pictureCr w (state .store) g) out z e;
     }
 
 -- a field with a mate
@@ -93,7 +91,7 @@ module _ (room : ℕ) (state : State) (first f : Sent) (h : Held room state (wai
   same-height : f .field .shape .luma .height ≡ first .field .shape .luma .height
   same-height =
       let both = both-inside (opposite (first .parity) (f .parity)) (fieldsAgree (first .field .shape) (f .field .shape)) m in
-      sym (alike-in (shapeOf (first .field .shape .luma)) (shapeOf (f .field .shape .luma)) (both .1) .heights)
+      sym (alike-in (gridShape (first .field .shape .luma)) (gridShape (f .field .shape .luma)) (both .1) .heights)
 
   cb-height : f .field .shape .cb .height ≡ first .field .shape .cb .height
   cb-height = second-sound .cb-half .down ∙ ap half same-height ∙ sym (h .sound .cb-half .down)
@@ -110,20 +108,19 @@ module _ (room : ℕ) (state : State) (first f : Sent) (h : Held room state (wai
   picture =
       let n = numberIn state f in
       let w = state .weaver in
-      let k = keptField w (state .store) in
       let g = f .field in
       record {
         times = λ i. cond (fit i) (h .weaver i .time ∷ []) [];
         luma = λ out.
-            woven n w (g .shape) (f .parity) (k .luma) (k .shape .luma) (g .luma) (g .shape .luma) out z fit
+            woven n w (g .shape) (f .parity) (pictureLuma w (state .store) g) out z fit
             ∙ (λ i. over (wovenBy (h .weaver i .parity) (kept-is i .luma) (kept-is i .shape .luma) (g .luma) (g .shape .luma)) out)
             ∙ ap (λ (plane : List ℕ). over plane out) (luma-woven (first .field) (h .sound) (h .rest) (first .parity) (g .luma) (g .shape .luma) same-height);
         cb = λ out.
-            woven n w (g .shape) (f .parity) (k .cb) (k .shape .cb) (g .cb) (g .shape .cb) out z fit
+            woven n w (g .shape) (f .parity) (pictureCb w (state .store) g) out z fit
             ∙ (λ i. over (wovenBy (h .weaver i .parity) (kept-is i .cb) (kept-is i .shape .cb) (g .cb) (g .shape .cb)) out)
             ∙ ap (λ (plane : List ℕ). over plane out) (cb-woven (first .field) (h .sound) (h .rest) (first .parity) (g .cb) (g .shape .cb) cb-height);
         cr = λ out.
-            woven n w (g .shape) (f .parity) (k .cr) (k .shape .cr) (g .cr) (g .shape .cr) out z fit
+            woven n w (g .shape) (f .parity) (pictureCr w (state .store) g) out z fit
             ∙ (λ i. over (wovenBy (h .weaver i .parity) (kept-is i .cr) (kept-is i .shape .cr) (g .cr) (g .shape .cr)) out)
             ∙ ap (λ (plane : List ℕ). over plane out) (cr-woven (first .field) (h .sound) (h .rest) (first .parity) (g .cr) (g .shape .cr) cr-height);
       }

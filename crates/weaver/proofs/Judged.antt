@@ -4,33 +4,33 @@ use mathlib.Core.Path.{_≡_, refl, sym, subst}
 use mathlib.Core.Bool.{Bool, true, false, cond, _&&_}
 use mathlib.Core.List.{List, [], _∷_}
 use native.Mathlib.Omega.{arith}
-use lib.Dec.{leb, eqb, lit<}
+use lib.Dec.{leb, eqb}
 use lib.ListN.{length, take, drop}
 use borrow.Author.Tests.{leb-true, le-leb, eqb-true, eq-eqb}
 use Rattle.laws.proofs.Lists.{part-length}
-use Rattle.laws.specs.Refusal.{lowest}
-use Rattle.laws.proofs.Refusal.{first-passes, rest-passes}
-use Rattle.plane.specs.Plane.{planeBytes, half, chromaAgrees}
+use Rattle.laws.specs.Refusal.{lowest, rising}
+use Rattle.laws.proofs.Refusal.{all-pass}
+use Rattle.plane.specs.Plane.{gridShape, planeBytes, half, chromaAgrees}
 use Rattle.plane.proofs.Coordinates.{both-inside}
 use Rattle.field.specs.declared.Parity.{Parity}
-use Rattle.weave.specs.declared.Lines.{Lines}
+use Rattle.plane.specs.declared.Grid.{Grid}
 use Rattle.weave.specs.declared.Field.{Field}
-use Rattle.weave.specs.Weave.{Given, givenOf, shapeOf, goodLines, goodField, chromaFits, fieldsAgree, whole, roomFor, wovenBytes}
+use Rattle.weave.specs.Weave.{Given, givenOf, goodLines, goodField, chromaFits, fieldsAgree, whole, roomFor, wovenBytes}
 use Rattle.weave.proofs.Fields.{bounded}
 use Rattle.weave.proofs.Judged.{each-of-three, Half, half-of}
 use Rattle.weaver.specs.declared.Weaver.{Weaver}
 use Rattle.weaver.specs.Weaver.{packedLines, packedShape, lumaBytes, chromaBytes, fieldBytes, keptField, keptBytes, opposite, fits}
-use Rattle.weaver.specs.Inner.{PackableField, Weavable}
+use Rattle.weaver.specs.Inner.{testsOf, PackableField, Weavable}
 use Rattle.weaver.proofs.Packed.{packed-good, packed-whole, Sound}
 
 pub sound : (g : Given) → goodField (g .shape) ≡ true → chromaFits (g .shape) ≡ true → whole g ≡ true → Sound g
 sound g good halved long =
     let s = g .shape in
     let goods = each-of-three (goodLines (s .luma)) (goodLines (s .cb)) (goodLines (s .cr)) good in
-    let halves = both-inside (chromaAgrees (shapeOf (s .luma)) (shapeOf (s .cb))) (chromaAgrees (shapeOf (s .luma)) (shapeOf (s .cr))) halved in
+    let halves = both-inside (chromaAgrees (gridShape (s .luma)) (gridShape (s .cb))) (chromaAgrees (gridShape (s .luma)) (gridShape (s .cr))) halved in
     let longs =
-    each-of-three (leb (planeBytes (shapeOf (s .luma))) (length (g .luma))) (leb (planeBytes (shapeOf (s .cb))) (length (g .cb)))
-    (leb (planeBytes (shapeOf (s .cr))) (length (g .cr))) long in
+    each-of-three (leb (planeBytes (gridShape (s .luma))) (length (g .luma))) (leb (planeBytes (gridShape (s .cb))) (length (g .cb)))
+    (leb (planeBytes (gridShape (s .cr))) (length (g .cr))) long in
     record {
       luma-good = goods .0;
       cb-good = goods .1;
@@ -38,8 +38,8 @@ sound g good halved long =
       luma-long = leb-true _ _ (longs .0);
       cb-long = leb-true _ _ (longs .1);
       cr-long = leb-true _ _ (longs .2);
-      cb-half = half-of (shapeOf (s .luma)) (shapeOf (s .cb)) (halves .0);
-      cr-half = half-of (shapeOf (s .luma)) (shapeOf (s .cr)) (halves .1);
+      cb-half = half-of (gridShape (s .luma)) (gridShape (s .cb)) (halves .0);
+      cr-half = half-of (gridShape (s .luma)) (gridShape (s .cr)) (halves .1);
     }
 
 -- ---- the tests of a field that gets 0
@@ -53,32 +53,16 @@ pub record Passed (w : Weaver) (g : Given) (picture : Bool) (store luma-room cb-
       (leb (fieldBytes (g .shape .luma .width) (g .shape .luma .height) (g .shape .luma .depth)) store)
       ≡ true
 
-abbrev pub testsOf : Weaver → Given → Bool → ℕ → ℕ → ℕ → ℕ → List (ℕ × Bool)
-testsOf w g picture store luma-room cb-room cr-room =
-    (4, goodField (g .shape))
-    ∷ (5, chromaFits (g .shape))
-    ∷ (6, whole g && leb (keptBytes w) store)
-    ∷ (
-      7,
-      cond picture (roomFor (g .shape) luma-room cb-room cr-room)
-          (leb (fieldBytes (g .shape .luma .width) (g .shape .luma .height) (g .shape .luma .depth)) store),
-    )
-    ∷ []
-
 module _ (w : Weaver) (g : Given) (picture : Bool) (store luma-room cb-room cr-room : ℕ) where
-  pub passed : lowest (testsOf w g picture store luma-room cb-room cr-room) ≡ 0 → Passed w g picture store luma-room cb-room cr-room
+  abbrev pub tests : List (ℕ × Bool)
+  tests = testsOf w picture (g .shape) (length (g .luma)) (length (g .cb)) (length (g .cr)) store luma-room cb-room cr-room
+
+  pub passed : lowest tests ≡ 0 → Passed w g picture store luma-room cb-room cr-room
+  unfolding rising
   passed done =
-      let past-shapes = rest-passes 4 _ _ (lit< tt) done in
-      let past-sizes = rest-passes 5 _ _ (lit< tt) past-shapes in
-      let past-bytes = rest-passes 6 _ _ (lit< tt) past-sizes in
-      let bytes = both-inside (whole g) (leb (keptBytes w) store) (first-passes 6 _ _ (lit< tt) past-sizes) in
-      record {
-        good = first-passes 4 _ _ (lit< tt) done;
-        halved = first-passes 5 _ _ (lit< tt) past-shapes;
-        long = bytes .0;
-        held = leb-true (keptBytes w) store (bytes .1);
-        roomy = first-passes 7 _ _ (lit< tt) past-bytes;
-      }
+      let each = all-pass tests tt done in
+      let bytes = both-inside (whole g) (leb (keptBytes w) store) (each .1 .1 .0) in
+      record { good = each .0; halved = each .1 .0; long = bytes .0; held = leb-true (keptBytes w) store (bytes .1); roomy = each .1 .1 .1 .0 }
 
 -- ---- a field that waits is packed
 pub packable :
@@ -93,11 +77,11 @@ module _ (g : Given) (s : Sound g) where
   abbrev packed : Field
   packed = packedShape (g .shape .luma .width) (g .shape .luma .height) (g .shape .luma .depth)
 
-  half-good : (chroma : Lines) → goodLines chroma ≡ true → Half (shapeOf (g .shape .luma)) (shapeOf chroma)
+  half-good : (chroma : Grid) → goodLines chroma ≡ true → Half (gridShape (g .shape .luma)) (gridShape chroma)
       → goodLines (packedLines (half (g .shape .luma .width)) (half (g .shape .luma .height)) (g .shape .luma .depth)) ≡ true
   half-good chroma good h = rw (h .across, h .down, h .deep) at (packed-good chroma good)
 
-  half-room : (chroma : Lines) (room : ℕ) → Half (shapeOf (g .shape .luma)) (shapeOf chroma) → leb (wovenBytes chroma) room ≡ true
+  half-room : (chroma : Grid) (room : ℕ) → Half (gridShape (g .shape .luma)) (gridShape chroma) → leb (wovenBytes chroma) room ≡ true
       → leb (wovenBytes (packedLines (half (g .shape .luma .width)) (half (g .shape .luma .height)) (g .shape .luma .depth))) room ≡ true
   half-room chroma room h e = rw (h .across, h .down, h .deep) at e
 
@@ -126,9 +110,9 @@ module _ (g : Given) (s : Sound g) where
     kept = givenOf packed luma cb cr
 
     plane-whole : (width height depth : ℕ) (bytes : List ℕ) → 1 ≤ height → length bytes ≡ lumaBytes width height depth
-        → leb (planeBytes (shapeOf (packedLines width height depth))) (length bytes) ≡ true
+        → leb (planeBytes (gridShape (packedLines width height depth))) (length bytes) ≡ true
     plane-whole width height depth bytes h e =
-        le-leb (planeBytes (shapeOf (packedLines width height depth))) (length bytes) (rw e (packed-whole width height depth h))
+        le-leb (planeBytes (gridShape (packedLines width height depth))) (length bytes) (rw e (packed-whole width height depth h))
 
     field-whole :
         length luma ≡ lumaBytes (g .shape .luma .width) (g .shape .luma .height) (g .shape .luma .depth)

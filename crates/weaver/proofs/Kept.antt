@@ -9,19 +9,19 @@ use lib.ListN.{length, take, drop}
 use Rattle.laws.proofs.Lists.{part-one, part-two, part-three, same-laid}
 use Rattle.field.specs.declared.Parity.{Parity}
 use Rattle.field.specs.declared.Parity.the-variants.{Top, Bottom}
-use Rattle.plane.specs.Plane.{planeBytes, half}
-use Rattle.weave.specs.declared.Lines.{Lines}
-use Rattle.weave.specs.Weave.{Given, shapeOf, goodLines, lineIn, wovenLine, wovenPlane}
+use Rattle.plane.specs.Plane.{gridShape, planeBytes, half}
+use Rattle.plane.specs.declared.Grid.{Grid}
+use Rattle.weave.specs.Weave.{Given, goodLines, lineIn, wovenLine, wovenPlane}
 use Rattle.weave.proofs.Judged.{Half}
 use Rattle.weaver.specs.Weaver.{packedLines, packedPlane, packedField, lumaBytes, chromaBytes, wovenBy}
 use Rattle.weaver.proofs.Packed.{packed-line, Sound, luma-packed, cb-packed, cr-packed}
 
 -- ---- planes
-module _ (bytes : List ℕ) (l : Lines) (good : goodLines l ≡ true) (long : planeBytes (shapeOf l) ≤ length bytes) (other : List ℕ) (o : Lines) where
+module _ (bytes : List ℕ) (l : Grid) (good : goodLines l ≡ true) (long : planeBytes (gridShape l) ≤ length bytes) (other : List ℕ) (o : Grid) where
   abbrev packed : List ℕ
   packed = packedPlane bytes l
 
-  abbrev lines : Lines
+  abbrev lines : Grid
   lines = packedLines (l .width) (l .height) (l .depth)
 
   as-top : wovenPlane packed lines other o ≡ wovenPlane bytes l other o
@@ -43,8 +43,8 @@ module _ (bytes : List ℕ) (l : Lines) (good : goodLines l ≡ true) (long : pl
   woven-packed Bottom e = as-bottom e
 
 -- ---- the planes of a field that a store begins with
-module _ (g : Given) (s : Sound g) (rest : List ℕ) (parity : Parity) (other : List ℕ) (o : Lines) where
-  abbrev l : Lines
+module _ (g : Given) (s : Sound g) (rest : List ℕ) (parity : Parity) (other : List ℕ) (o : Grid) where
+  abbrev l : Grid
   l = g .shape .luma
 
   abbrev a : ℕ
@@ -56,7 +56,7 @@ module _ (g : Given) (s : Sound g) (rest : List ℕ) (parity : Parity) (other : 
   abbrev store : List ℕ
   store = packedField g ++ rest
 
-  abbrev chroma : Lines
+  abbrev chroma : Grid
   chroma = packedLines (half (l .width)) (half (l .height)) (l .depth)
 
   pub luma-woven :
@@ -69,7 +69,7 @@ module _ (g : Given) (s : Sound g) (rest : List ℕ) (parity : Parity) (other : 
       ap (λ (bytes : List ℕ). wovenBy parity bytes (packedLines (l .width) (l .height) (l .depth)) other o) part
       ∙ woven-packed (g .luma) l (s .luma-good) (s .luma-long) other o parity e
 
-  half-lines : (c : Lines) → Half (shapeOf l) (shapeOf c) → chroma ≡ packedLines (c .width) (c .height) (c .depth)
+  half-lines : (c : Grid) → Half (gridShape l) (gridShape c) → chroma ≡ packedLines (c .width) (c .height) (c .depth)
   half-lines c h = sym (λ i. packedLines (h .across i) (h .down i) (h .deep i))
 
   pub cb-woven :

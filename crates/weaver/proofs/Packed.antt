@@ -12,11 +12,11 @@ use borrow.Author.Tests.{le-leb}
 use Rattle.laws.specs.Rows.{laid, over}
 use Rattle.laws.proofs.Lists.{length-laid, laid-row, over-then, Stacked, stack-starts, stacks, part-length, clamped, clamped-wide, clamped-row, clamped-laid}
 use Rattle.laws.proofs.Rows.{row-within, stack-fills}
-use Rattle.plane.specs.Plane.{sampleBytes, goodShape, planeBytes}
+use Rattle.plane.specs.Plane.{gridShape, sampleBytes, goodShape, planeBytes}
 use Rattle.plane.proofs.Bounds.{good-within}
 use Rattle.plane.proofs.Coordinates.{both-inside}
-use Rattle.weave.specs.declared.Lines.{Lines}
-use Rattle.weave.specs.Weave.{Given, shapeOf, lineBytes, goodLines, lineIn}
+use Rattle.plane.specs.declared.Grid.{Grid}
+use Rattle.weave.specs.Weave.{Given, lineBytes, goodLines, lineIn}
 use Rattle.weave.proofs.Fields.{bounded, line-within}
 use Rattle.weave.proofs.Judged.{Half}
 use Rattle.weaver.specs.Weaver.{packedLines, packedPlane, packedField, lumaBytes, chromaBytes, fieldBytes}
@@ -24,13 +24,13 @@ use Rattle.weaver.specs.Inner.{Packable}
 
 -- ---- a plane
 
-pub row-size : (l : Lines) → lineBytes l ≡ l .width * sampleBytes (l .depth)
+pub row-size : (l : Grid) → lineBytes l ≡ l .width * sampleBytes (l .depth)
 row-size l = ap (λ (n : ℕ). n * sampleBytes (l .depth)) (mul-one (l .width))
 
-abbrev pub packedRows : List ℕ → Lines → ℕ → List ℕ
+abbrev pub packedRows : List ℕ → Grid → ℕ → List ℕ
 packedRows bytes l = clamped (lineIn bytes l) (l .height - 1)
 
-module _ (bytes : List ℕ) (l : Lines) (good : goodLines l ≡ true) (long : planeBytes (shapeOf l) ≤ length bytes) where
+module _ (bytes : List ℕ) (l : Grid) (good : goodLines l ≡ true) (long : planeBytes (gridShape l) ≤ length bytes) where
   some-row : 1 ≤ l .height
   some-row = bounded l good .height-least
 
@@ -64,7 +64,7 @@ module _ (bytes : List ℕ) (l : Lines) (good : goodLines l ≡ true) (long : pl
       ∙ clamped-row (lineIn bytes l) (l .height - 1) y (omega arith)
 
 -- ---- a loop that packs a row of n bytes in a turn
-module _ (plane : List ℕ) (l : Lines) (part : ℕ) (p : Packable part (length plane) l) (n : ℕ) (e : n ≡ l .width * sampleBytes (l .depth)) where
+module _ (plane : List ℕ) (l : Grid) (part : ℕ) (p : Packable part (length plane) l) (n : ℕ) (e : n ≡ l .width * sampleBytes (l .depth)) where
   wide : (y : ℕ) → length (packedRows plane l y) ≡ n
   wide y = rows-wide plane l (p .good) (p .long) y ∙ sym e
 
@@ -92,11 +92,11 @@ module _ (plane : List ℕ) (l : Lines) (part : ℕ) (p : Packable part (length 
       stack-fills wide s h (same ∙ p .exact ∙ ap (λ (k : ℕ). l .height * k) (sym e)) ∙ rows-laid plane l (p .good) (p .long)
 
 -- a plane within the bounds is within them packed
-pub packed-good : (l : Lines) → goodLines l ≡ true → goodLines (packedLines (l .width) (l .height) (l .depth)) ≡ true
+pub packed-good : (l : Grid) → goodLines l ≡ true → goodLines (packedLines (l .width) (l .height) (l .depth)) ≡ true
 unfolding goodShape
 packed-good l h =
-    let both = both-inside (goodShape (shapeOf l)) (leb (l .height) 2176) h in
-    let w = good-within (shapeOf l) (both .0) in
+    let both = both-inside (goodShape (gridShape l)) (leb (l .height) 2176) h in
+    let w = good-within (gridShape l) (both .0) in
     let size = l .width * sampleBytes (l .depth) in
     let fits : lineBytes l ≤ size = le-of-eq (row-size l) in
     let small : size ≤ 65536 = omega (arith, row-size l, w .row-fits, w .stride-most) in
@@ -112,7 +112,7 @@ packed-good l h =
     && both .1 i
 
 -- it needs no more bytes than it has
-pub packed-whole : (width height depth : ℕ) → 1 ≤ height → planeBytes (shapeOf (packedLines width height depth)) ≤ lumaBytes width height depth
+pub packed-whole : (width height depth : ℕ) → 1 ≤ height → planeBytes (gridShape (packedLines width height depth)) ≤ lumaBytes width height depth
 packed-whole width height depth h =
     let size = width * sampleBytes depth in
     let rows : (height - 1) * size + size ≡ height * size =
@@ -123,7 +123,7 @@ packed-whole width height depth h =
 
 -- a chroma plane has the bytes that the store gives it
 pub chroma-size :
-    (luma chroma : Lines) → Half (shapeOf luma) (shapeOf chroma)
+    (luma chroma : Grid) → Half (gridShape luma) (gridShape chroma)
     → lumaBytes (chroma .width) (chroma .height) (chroma .depth) ≡ chromaBytes (luma .width) (luma .height) (luma .depth)
 chroma-size luma chroma h = rw (h .across, h .down, h .deep)
 
@@ -132,11 +132,11 @@ pub record Sound (g : Given) : Type 0 where
   pub luma-good : goodLines (g .shape .luma) ≡ true
   pub cb-good : goodLines (g .shape .cb) ≡ true
   pub cr-good : goodLines (g .shape .cr) ≡ true
-  pub luma-long : planeBytes (shapeOf (g .shape .luma)) ≤ length (g .luma)
-  pub cb-long : planeBytes (shapeOf (g .shape .cb)) ≤ length (g .cb)
-  pub cr-long : planeBytes (shapeOf (g .shape .cr)) ≤ length (g .cr)
-  pub cb-half : Half (shapeOf (g .shape .luma)) (shapeOf (g .shape .cb))
-  pub cr-half : Half (shapeOf (g .shape .luma)) (shapeOf (g .shape .cr))
+  pub luma-long : planeBytes (gridShape (g .shape .luma)) ≤ length (g .luma)
+  pub cb-long : planeBytes (gridShape (g .shape .cb)) ≤ length (g .cb)
+  pub cr-long : planeBytes (gridShape (g .shape .cr)) ≤ length (g .cr)
+  pub cb-half : Half (gridShape (g .shape .luma)) (gridShape (g .shape .cb))
+  pub cr-half : Half (gridShape (g .shape .luma)) (gridShape (g .shape .cr))
 
 module _ (g : Given) (s : Sound g) where
   abbrev luma-size : ℕ

@@ -10,7 +10,7 @@ use Rattle.field.specs.declared.Parity.{Parity}
 use Rattle.weave.specs.Weave.{Given}
 use Rattle.weaver.specs.declared.Weaver.{Weaver}
 use Rattle.weaver.specs.declared.Paired.{Paired}
-use Rattle.weaver.specs.Weaver.{keptField, wovenBy, pushTests, pictureTimes, pushOut, pairedNo, pairedValues}
+use Rattle.weaver.specs.Weaver.{wovenBy, pushTests, pictureTimes, pictureLuma, pictureCb, pictureCr, pushOut, pairedNo, pairedValues}
 use Rattle.weaver.specs.History.{Sent, Call, push, State, numberIn, next, after, Waiting, none, waits, mateOf, waitingAfter, refusalOf, taken}
 
 -- 0 exactly when no number applies, and otherwise the lowest that does
@@ -34,18 +34,15 @@ RefusalKnown =
 -- what the outputs hold after a field, of three lists that are lent for them
 abbrev pub lumaOut : State → Sent → List ℕ → List ℕ
 lumaOut state f out =
-    pushOut (numberIn state f) (state .weaver) (f .field .shape) (f .parity) (keptField (state .weaver) (state .store) .luma)
-    (keptField (state .weaver) (state .store) .shape .luma) (f .field .luma) (f .field .shape .luma) out
+    pushOut (numberIn state f) (state .weaver) (f .field .shape) (f .parity) (pictureLuma (state .weaver) (state .store) (f .field)) out
 
 abbrev pub cbOut : State → Sent → List ℕ → List ℕ
 cbOut state f out =
-    pushOut (numberIn state f) (state .weaver) (f .field .shape) (f .parity) (keptField (state .weaver) (state .store) .cb)
-    (keptField (state .weaver) (state .store) .shape .cb) (f .field .cb) (f .field .shape .cb) out
+    pushOut (numberIn state f) (state .weaver) (f .field .shape) (f .parity) (pictureCb (state .weaver) (state .store) (f .field)) out
 
 abbrev pub crOut : State → Sent → List ℕ → List ℕ
 crOut state f out =
-    pushOut (numberIn state f) (state .weaver) (f .field .shape) (f .parity) (keptField (state .weaver) (state .store) .cr)
-    (keptField (state .weaver) (state .store) .shape .cr) (f .field .cr) (f .field .shape .cr) out
+    pushOut (numberIn state f) (state .weaver) (f .field .shape) (f .parity) (pictureCr (state .weaver) (state .store) (f .field)) out
 
 -- A field with no mate gives no picture and leaves the outputs as they were.
 pub record NoPicture (state : State) (f : Sent) : Type 0 where

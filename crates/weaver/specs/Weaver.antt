@@ -4,14 +4,16 @@ use Prim.Native.Nat.{ℕ, _+_, _*_}
 use mathlib.Core.Bool.{Bool, true, false, cond, not, _&&_}
 use mathlib.Core.List.{List, [], _∷_, _++_}
 use lib.Dec.{leb, eqb}
-use lib.ListN.{take, drop}
+use lib.ListN.{length, take, drop}
+use denote.Ref.{RefT, now}
+use denote.Triple.Both.{Both}
 use Rattle.laws.specs.Refusal.{lowest, written}
 use Rattle.laws.specs.Rows.{laid, over}
 use Rattle.field.specs.declared.Parity.{Parity}
 use Rattle.field.specs.declared.Parity.the-variants.{Top, Bottom}
 use Rattle.field.specs.Field.{firstRowOf}
 use Rattle.plane.specs.Plane.{sampleBytes, half}
-use Rattle.weave.specs.declared.Lines.{Lines}
+use Rattle.plane.specs.declared.Grid.{Grid}
 use Rattle.weave.specs.declared.Field.{Field}
 use Rattle.weave.specs.Weave.{Given, givenOf, lineIn, goodField, chromaFits, whole, roomFor, wovenPlane}
 use Rattle.weaver.specs.declared.Time.{Time}
@@ -23,7 +25,7 @@ use Rattle.weaver.specs.declared.Paired.the-variants as paired
 -- ---- a field packed in a store
 
 -- lines with nothing between them
-abbrev pub packedLines : ℕ → ℕ → ℕ → Lines
+abbrev pub packedLines : ℕ → ℕ → ℕ → Grid
 packedLines width height depth = record { width = width; height = height; depth = depth; stride = width * sampleBytes depth }
 
 abbrev pub packedShape : ℕ → ℕ → ℕ → Field
@@ -44,7 +46,7 @@ abbrev pub fieldBytes : ℕ → ℕ → ℕ → ℕ
 fieldBytes width height depth = lumaBytes width height depth + (chromaBytes width height depth + chromaBytes width height depth)
 
 -- the lines of a plane, and the three planes one after another
-unfoldable pub packedPlane : List ℕ → Lines → List ℕ
+unfoldable pub packedPlane : List ℕ → Grid → List ℕ
 packedPlane bytes l = laid (l .height) (lineIn bytes l)
 
 unfoldable pub packedField : Given → List ℕ
@@ -99,6 +101,12 @@ pushTests w g parity store luma-room cb-room cr-room =
 abbrev pub pushNo : Weaver → Given → Parity → ℕ → ℕ → ℕ → ℕ → ℕ
 pushNo w g parity store luma-room cb-room cr-room = lowest (pushTests w g parity store luma-room cb-room cr-room)
 
+-- the same of a store and three outputs that are lent
+abbrev pub pushNoOf :
+    {A B C D : Type 0} → Weaver → Given → Parity → Both (RefT (List ℕ)) A → Both (RefT (List ℕ)) B → Both (RefT (List ℕ)) C → Both (RefT (List ℕ)) D → ℕ
+pushNoOf w g parity store luma cb cr =
+    pushNo w g parity (length (now (store .entry))) (length (now (luma .entry))) (length (now (cb .entry))) (length (now (cr .entry)))
+
 -- An answer by its cases: a picture is number 0 and the earlier field's time, a field that waits number 0 and no time, a refusal its number and no
 -- value.
 abbrev pub pairedNo : Paired → ℕ
@@ -122,10 +130,20 @@ abbrev pub pushStore : ℕ → Weaver → Given → Parity → List ℕ → List
 pushStore number w g parity store = written number (cond (fits w (g .shape) parity) store (over (packedField g) store)) store
 
 -- a plane of two fields woven, of which the first has this parity
-abbrev pub wovenBy : Parity → List ℕ → Lines → List ℕ → Lines → List ℕ
+abbrev pub wovenBy : Parity → List ℕ → Grid → List ℕ → Grid → List ℕ
 wovenBy Top first f second s = wovenPlane first f second s
 wovenBy Bottom first f second s = wovenPlane second s first f
 
--- what an output holds: the plane of the field that waited woven with the new field's
-abbrev pub pushOut : ℕ → Weaver → Field → Parity → List ℕ → Lines → List ℕ → Lines → List ℕ → List ℕ
-pushOut number w shape parity first f second s out = written number (cond (fits w shape parity) (over (wovenBy (w .parity) first f second s) out) out) out
+-- the picture: each plane of the field that waited woven with the new field's
+abbrev pub pictureLuma : Weaver → List ℕ → Given → List ℕ
+pictureLuma w store g = let kept = keptField w store in wovenBy (w .parity) (kept .luma) (kept .shape .luma) (g .luma) (g .shape .luma)
+
+abbrev pub pictureCb : Weaver → List ℕ → Given → List ℕ
+pictureCb w store g = let kept = keptField w store in wovenBy (w .parity) (kept .cb) (kept .shape .cb) (g .cb) (g .shape .cb)
+
+abbrev pub pictureCr : Weaver → List ℕ → Given → List ℕ
+pictureCr w store g = let kept = keptField w store in wovenBy (w .parity) (kept .cr) (kept .shape .cr) (g .cr) (g .shape .cr)
+
+-- what an output holds, where its plane of the picture is this
+abbrev pub pushOut : ℕ → Weaver → Field → Parity → List ℕ → List ℕ → List ℕ
+pushOut number w shape parity plane out = written number (cond (fits w shape parity) (over plane out) out) out

@@ -6,20 +6,20 @@
 //
 // Fields in the order they come, paired into frames.
 ghost use mathlib.Core.Path.{_≡_};
-ghost use mathlib.Core.Bool.{cond, _&&_};
-ghost use mathlib.Core.List.{[], _∷_, _++_};
+ghost use mathlib.Core.Bool.{cond};
+ghost use mathlib.Core.List.{_++_};
 ghost use Prim.Native.Nat.{_+_, _*_, _≤_};
 ghost use lib.Dec.{leb};
 ghost use lib.ListN.{length, take, drop};
 ghost use Rattle.laws.specs.Refusal.{lowest, whenDone};
 ghost use Rattle.laws.specs.Rows.{over};
 ghost use Rattle.plane.specs.Plane.{sampleBytes, half};
-ghost use Rattle.weave.specs.Weave.{givenOf, goodField, chromaFits, wholeField, roomFor};
-ghost use Rattle.weaver.specs.Weaver.{packedLines, packedShape, packedPlane, packedField, lumaBytes, chromaBytes, fieldBytes, emptyWeaver, keptField, keptBytes, opposite, fits, wovenBy, pushNo, pictureTimes, pushWeaver, pushStore, pushOut, pairedNo, pairedValues};
-ghost use Rattle.weaver.specs.Inner.{Packable, PackableField, Weavable};
+ghost use Rattle.weave.specs.Weave.{lentField, roomFor};
+ghost use Rattle.weaver.specs.Weaver.{packedLines, packedShape, packedPlane, packedField, lumaBytes, chromaBytes, fieldBytes, emptyWeaver, keptField, keptBytes, opposite, fits, wovenBy, pushNoOf, pictureTimes, pictureLuma, pictureCb, pictureCr, pushWeaver, pushStore, pushOut, pairedNo, pairedValues};
+ghost use Rattle.weaver.specs.Inner.{testsOf, foundField, Packable, PackableField, Weavable};
 use field::Parity;
+use plane::Grid;
 use weave::Field;
-use weave::Lines;
 
 // A field's time, if it has one.
 pub enum Time {
@@ -53,12 +53,6 @@ pub struct Pushed {
 
 // ---- sizes
 
-fn half_of(n: u16) -> u16
-    ensures { λ r. ⌜ r ≡ half n ⌝ }
-{
-    (((n as u32) + 1) / 2) as u16
-}
-
 // The bytes of a packed row.
 fn row_bytes(width: u16, depth: u8) -> u32
     ensures { λ r. ⌜ (r ≡ width * sampleBytes depth) × (r ≤ 131070) ⌝ }
@@ -76,7 +70,7 @@ fn luma_bytes(width: u16, height: u16, depth: u8) -> usize
 fn chroma_bytes(width: u16, height: u16, depth: u8) -> usize
     ensures { λ r. ⌜ (r ≡ chromaBytes width height depth) × (r ≤ 8589672450) ⌝ }
 {
-    luma_bytes(half_of(width), half_of(height), depth)
+    luma_bytes(plane::half_of(width), plane::half_of(height), depth)
 }
 
 fn field_bytes(width: u16, height: u16, depth: u8) -> usize
@@ -86,10 +80,10 @@ fn field_bytes(width: u16, height: u16, depth: u8) -> usize
     luma_bytes(width, height, depth) + (chroma + chroma)
 }
 
-fn packed_lines(width: u16, height: u16, depth: u8) -> Lines
+fn packed_lines(width: u16, height: u16, depth: u8) -> Grid
     ensures { λ r. ⌜ r ≡ packedLines width height depth ⌝ }
 {
-    Lines {
+    Grid {
         width: width,
         height: height,
         depth: depth,
@@ -102,7 +96,7 @@ fn packed_shape(width: u16, height: u16, depth: u8) -> Field
     ensures { λ r. ⌜ r ≡ packedShape width height depth ⌝ }
 {
     let luma = packed_lines(width, height, depth);
-    let chroma = packed_lines(half_of(width), half_of(height), depth);
+    let chroma = packed_lines(plane::half_of(width), plane::half_of(height), depth);
     Field {
         luma: luma,
         cb: chroma,
@@ -164,20 +158,32 @@ fn push_no(
     out_cb: usize,
     out_cr: usize,
 ) -> u8
-    ensures { λ r. ⌜ r ≡ lowest ((4, goodField shape) ∷ (5, chromaFits shape) ∷ (6, wholeField shape luma cb cr && leb (keptBytes kept) store) ∷ (7, cond picture (roomFor shape «out_luma» «out_cb» «out_cr») (leb (fieldBytes (shape .luma .width) (shape .luma .height) (shape .luma .depth)) store)) ∷ []) ⌝ }
+    ensures { λ r. ⌜ r ≡ lowest (testsOf kept picture shape luma cb cr store «out_luma» «out_cb» «out_cr») ⌝ }
 {
     let good = weave::good_field(shape);
     let halved = weave::chroma_fits(shape);
     let whole = weave::whole_field(shape, luma, cb, cr);
     let held = kept_bytes(kept) <= store;
     let room = room_after(picture, shape, store, out_luma, out_cb, out_cr);
-    refusal::lowest_of(true, good, halved, whole & held, room, true)
+    refusal::test(
+        refusal::SHAPE,
+        good,
+        refusal::test(
+            refusal::DIFFER,
+            halved,
+            refusal::test(
+                refusal::SHORT_INPUT,
+                whole & held,
+                refusal::test(refusal::SHORT_OUTPUT, room, refusal::DONE),
+            ),
+        ),
+    )
 }
 
 // ---- packing
 
 // The rows of a plane one after another, over a part of the store that is just as long.
-fn pack_plane(part: &mut [u8], plane: &[u8], l: Lines)
+fn pack_plane(part: &mut [u8], plane: &[u8], l: Grid)
     requires { ⌜ Packable (length (now part)) (length (now plane)) l ⌝ }
     ensures { λ _. ⌜ now (part .exit) ≡ packedPlane (now (plane .entry)) l ⌝ }
 {
@@ -192,7 +198,7 @@ fn pack_plane(part: &mut [u8], plane: &[u8], l: Lines)
 }
 
 // The same, over n bytes of the store from `at` on.
-fn pack_part(store: &mut [u8], at: usize, n: usize, plane: &[u8], l: Lines)
+fn pack_part(store: &mut [u8], at: usize, n: usize, plane: &[u8], l: Grid)
     requires { ⌜ Packable n (length (now plane)) l × (at + n ≤ length (now store)) ⌝ }
     ensures { λ _. ⌜ now (store .exit) ≡ take at (now (store .entry)) ++ (packedPlane (now (plane .entry)) l ++ drop (at + n) (now (store .entry))) ⌝ }
 {
@@ -201,8 +207,8 @@ fn pack_part(store: &mut [u8], at: usize, n: usize, plane: &[u8], l: Lines)
 
 // The three planes one behind another at the front of the store.
 fn pack_field(store: &mut [u8], shape: Field, luma: &[u8], cb: &[u8], cr: &[u8])
-    requires { ⌜ PackableField (length (now store)) (givenOf shape (now luma) (now cb) (now cr)) ⌝ }
-    ensures { λ _. ⌜ now (store .exit) ≡ over (packedField (givenOf shape (now (luma .entry)) (now (cb .entry)) (now (cr .entry)))) (now (store .entry)) ⌝ }
+    requires { ⌜ PackableField (length (now store)) (foundField shape luma cb cr) ⌝ }
+    ensures { λ _. ⌜ now (store .exit) ≡ over (packedField (lentField shape luma cb cr)) (now (store .entry)) ⌝ }
 {
     let a = luma_bytes(shape.luma.width, shape.luma.height, shape.luma.depth);
     let b = chroma_bytes(shape.luma.width, shape.luma.height, shape.luma.depth);
@@ -228,7 +234,7 @@ fn weave_pair(
     out_cb: &mut [u8],
     out_cr: &mut [u8],
 )
-    requires { ⌜ Weavable (givenOf first (now «first_luma») (now «first_cb») (now «first_cr»)) (givenOf second (now «second_luma») (now «second_cb») (now «second_cr»)) (length (now «out_luma»)) (length (now «out_cb»)) (length (now «out_cr»)) ⌝ }
+    requires { ⌜ Weavable (foundField first «first_luma» «first_cb» «first_cr») (foundField second «second_luma» «second_cb» «second_cr») (length (now «out_luma»)) (length (now «out_cb»)) (length (now «out_cr»)) ⌝ }
     ensures { λ _. ⌜ now («out_luma» .exit) ≡ over (wovenBy parity (now («first_luma» .entry)) (first .luma) (now («second_luma» .entry)) (second .luma)) (now («out_luma» .entry)) ⌝ }
     ensures { λ _. ⌜ now («out_cb» .exit) ≡ over (wovenBy parity (now («first_cb» .entry)) (first .cb) (now («second_cb» .entry)) (second .cb)) (now («out_cb» .entry)) ⌝ }
     ensures { λ _. ⌜ now («out_cr» .exit) ≡ over (wovenBy parity (now («first_cr» .entry)) (first .cr) (now («second_cr» .entry)) (second .cr)) (now («out_cr» .entry)) ⌝ }
@@ -279,10 +285,11 @@ fn weave_kept(
     out_cb: &mut [u8],
     out_cr: &mut [u8],
 )
-    requires { ⌜ Weavable (keptField kept (now store)) (givenOf shape (now luma) (now cb) (now cr)) (length (now «out_luma»)) (length (now «out_cb»)) (length (now «out_cr»)) × (fieldBytes (kept .width) (kept .height) (kept .depth) ≤ length (now store)) ⌝ }
-    ensures { λ _. ⌜ now («out_luma» .exit) ≡ over (wovenBy (kept .parity) (keptField kept (now (store .entry)) .luma) (keptField kept (now (store .entry)) .shape .luma) (now (luma .entry)) (shape .luma)) (now («out_luma» .entry)) ⌝ }
-    ensures { λ _. ⌜ now («out_cb» .exit) ≡ over (wovenBy (kept .parity) (keptField kept (now (store .entry)) .cb) (keptField kept (now (store .entry)) .shape .cb) (now (cb .entry)) (shape .cb)) (now («out_cb» .entry)) ⌝ }
-    ensures { λ _. ⌜ now («out_cr» .exit) ≡ over (wovenBy (kept .parity) (keptField kept (now (store .entry)) .cr) (keptField kept (now (store .entry)) .shape .cr) (now (cr .entry)) (shape .cr)) (now («out_cr» .entry)) ⌝ }
+    requires { ⌜ Weavable (keptField kept (now store)) (foundField shape luma cb cr) (length (now «out_luma»)) (length (now «out_cb»)) (length (now «out_cr»)) ⌝ }
+    requires { ⌜ fieldBytes (kept .width) (kept .height) (kept .depth) ≤ length (now store) ⌝ }
+    ensures { λ _. ⌜ now («out_luma» .exit) ≡ over (pictureLuma kept (now (store .entry)) (lentField shape luma cb cr)) (now («out_luma» .entry)) ⌝ }
+    ensures { λ _. ⌜ now («out_cb» .exit) ≡ over (pictureCb kept (now (store .entry)) (lentField shape luma cb cr)) (now («out_cb» .entry)) ⌝ }
+    ensures { λ _. ⌜ now («out_cr» .exit) ≡ over (pictureCr kept (now (store .entry)) (lentField shape luma cb cr)) (now («out_cr» .entry)) ⌝ }
 {
     let parity = kept.parity;
     let first = packed_shape(kept.width, kept.height, kept.depth);
@@ -339,13 +346,13 @@ impl Weaver {
         out_cb: &mut [u8],
         out_cr: &mut [u8],
     ) -> Pushed
-        ensures { λ r. ⌜ pairedNo (r .answer) ≡ pushNo self (givenOf shape (now (luma .entry)) (now (cb .entry)) (now (cr .entry))) parity (length (now (store .entry))) (length (now («out_luma» .entry))) (length (now («out_cb» .entry))) (length (now («out_cr» .entry))) ⌝ }
+        ensures { λ r. ⌜ pairedNo (r .answer) ≡ pushNoOf self (lentField shape luma cb cr) parity store «out_luma» «out_cb» «out_cr» ⌝ }
         ensures { λ r. ⌜ pairedValues (r .answer) ≡ whenDone (pairedNo (r .answer)) (pictureTimes self shape parity) ⌝ }
         ensures { λ r. ⌜ r .weaver ≡ pushWeaver (pairedNo (r .answer)) self shape parity time ⌝ }
-        ensures { λ r. ⌜ now (store .exit) ≡ pushStore (pairedNo (r .answer)) self (givenOf shape (now (luma .entry)) (now (cb .entry)) (now (cr .entry))) parity (now (store .entry)) ⌝ }
-        ensures { λ r. ⌜ now («out_luma» .exit) ≡ pushOut (pairedNo (r .answer)) self shape parity (keptField self (now (store .entry)) .luma) (keptField self (now (store .entry)) .shape .luma) (now (luma .entry)) (shape .luma) (now («out_luma» .entry)) ⌝ }
-        ensures { λ r. ⌜ now («out_cb» .exit) ≡ pushOut (pairedNo (r .answer)) self shape parity (keptField self (now (store .entry)) .cb) (keptField self (now (store .entry)) .shape .cb) (now (cb .entry)) (shape .cb) (now («out_cb» .entry)) ⌝ }
-        ensures { λ r. ⌜ now («out_cr» .exit) ≡ pushOut (pairedNo (r .answer)) self shape parity (keptField self (now (store .entry)) .cr) (keptField self (now (store .entry)) .shape .cr) (now (cr .entry)) (shape .cr) (now («out_cr» .entry)) ⌝ }
+        ensures { λ r. ⌜ now (store .exit) ≡ pushStore (pairedNo (r .answer)) self (lentField shape luma cb cr) parity (now (store .entry)) ⌝ }
+        ensures { λ r. ⌜ now («out_luma» .exit) ≡ pushOut (pairedNo (r .answer)) self shape parity (pictureLuma self (now (store .entry)) (lentField shape luma cb cr)) (now («out_luma» .entry)) ⌝ }
+        ensures { λ r. ⌜ now («out_cb» .exit) ≡ pushOut (pairedNo (r .answer)) self shape parity (pictureCb self (now (store .entry)) (lentField shape luma cb cr)) (now («out_cb» .entry)) ⌝ }
+        ensures { λ r. ⌜ now («out_cr» .exit) ≡ pushOut (pairedNo (r .answer)) self shape parity (pictureCr self (now (store .entry)) (lentField shape luma cb cr)) (now («out_cr» .entry)) ⌝ }
     {
         let picture = fits_kept(self, shape, parity);
         let no = push_no(

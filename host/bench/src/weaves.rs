@@ -5,7 +5,7 @@ use std::hint::black_box;
 use std::rc::Rc;
 
 use desk::WEAVER_BYTES;
-use desk::calls::{FieldNumbers, LinesNumbers, ReadbackNumbers};
+use desk::calls::{FieldNumbers, GridNumbers, ReadbackNumbers};
 use differ::random::Random;
 use differ::runs;
 use oracle::decode::Readback;
@@ -20,8 +20,8 @@ fn bytes_a_sample(depth: u32) -> u32 {
 }
 
 /// Lines without padding.
-fn lines(width: u32, height: u32, depth: u32) -> LinesNumbers {
-    LinesNumbers {
+fn lines(width: u32, height: u32, depth: u32) -> GridNumbers {
+    GridNumbers {
         width,
         height,
         depth,
@@ -29,7 +29,7 @@ fn lines(width: u32, height: u32, depth: u32) -> LinesNumbers {
     }
 }
 
-fn plane(seed: u64, lines: LinesNumbers) -> Plane {
+fn plane(seed: u64, lines: GridNumbers) -> Plane {
     Plane {
         data: Random::new(seed).bytes((lines.stride * lines.height) as usize),
         stride: lines.stride as usize,

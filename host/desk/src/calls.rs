@@ -26,8 +26,7 @@ pub struct Conversion {
     pub chroma_sin: f32,
 }
 
-/// A plane's shape as the host gives it. The numbers are wider than a shape's own, so that none can wrap
-/// into the bounds; a call refuses those outside.
+/// A plane's shape as the host gives it. A call refuses what is outside the bounds.
 #[repr(C)]
 #[derive(Debug, Clone, Copy, PartialEq, Eq)]
 pub struct PlaneNumbers {
@@ -43,11 +42,12 @@ pub struct PlaneNumbers {
     pub layout: u32,
 }
 
-/// A picture's shape as the host gives it: sizes in samples, the stride in bytes. The numbers are wider
-/// than a grid's own, so that none can wrap into the bounds; a call refuses those outside.
+/// The shape of a plane whose codes are read as they stand: of a picture, or of a field, whose rows are
+/// its lines. A call refuses what is outside the bounds.
 #[repr(C)]
 #[derive(Debug, Clone, Copy, PartialEq, Eq)]
 pub struct GridNumbers {
+    /// Samples in a row.
     pub width: u32,
     pub height: u32,
     /// Bits of a sample.
@@ -80,27 +80,13 @@ pub struct FrameNumbers {
     pub cr: PlaneNumbers,
 }
 
-/// The lines of a plane of a field: sizes in samples, the stride in bytes. Any numbers may stand here; a
-/// call refuses those outside the bounds.
-#[repr(C)]
-#[derive(Debug, Clone, Copy, PartialEq, Eq)]
-pub struct LinesNumbers {
-    pub width: u32,
-    /// Lines of the field: at most 2,176.
-    pub height: u32,
-    /// Bits of a sample.
-    pub depth: u32,
-    /// Bytes from one line to the next.
-    pub stride: u32,
-}
-
-/// The three planes of a field.
+/// The three planes of a field, whose lines are at most 2,176.
 #[repr(C)]
 #[derive(Debug, Clone, Copy, PartialEq, Eq)]
 pub struct FieldNumbers {
-    pub luma: LinesNumbers,
-    pub cb: LinesNumbers,
-    pub cr: LinesNumbers,
+    pub luma: GridNumbers,
+    pub cb: GridNumbers,
+    pub cr: GridNumbers,
 }
 
 /// What is said of a stream's pictures. The last three are 0 or 1.
@@ -210,11 +196,11 @@ mod exported {
             out_luma_len: usize, out_cb: *mut u8, out_cb_len: usize, out_cr: *mut u8, out_cr_len: usize,
         ) -> u8;
         pub(super) fn desk_line_number(
-            top: LinesNumbers, top_bytes: u64, bottom: LinesNumbers, bottom_bytes: u64, y: u32,
+            top: GridNumbers, top_bytes: u64, bottom: GridNumbers, bottom_bytes: u64, y: u32,
         ) -> u8;
         pub(super) fn desk_woven_line(
-            top: *const u8, top_len: usize, top_lines: LinesNumbers, bottom: *const u8, bottom_len: usize,
-            bottom_lines: LinesNumbers, y: u32, out: *mut u8, out_len: usize,
+            top: *const u8, top_len: usize, top_lines: GridNumbers, bottom: *const u8, bottom_len: usize,
+            bottom_lines: GridNumbers, y: u32, out: *mut u8, out_len: usize,
         ) -> u8;
         pub(super) fn desk_woven(field: FormatNumbers) -> FormatNumbers;
         pub(super) fn desk_readback(
@@ -485,7 +471,7 @@ pub fn weave(
 
 /// The number of a single woven line, from the lengths of the two planes. Gives 0; or 3, 4, 5 or 6.
 #[inline]
-pub fn line_number(top: LinesNumbers, top_bytes: u64, bottom: LinesNumbers, bottom_bytes: u64, y: u32) -> u8 {
+pub fn line_number(top: GridNumbers, top_bytes: u64, bottom: GridNumbers, bottom_bytes: u64, y: u32) -> u8 {
     // SAFETY: above.
     unsafe {
         exported::desk_line_number(top, top_bytes, bottom, bottom_bytes, y)
@@ -496,7 +482,7 @@ pub fn line_number(top: LinesNumbers, top_bytes: u64, bottom: LinesNumbers, bott
 /// is as it was.
 #[inline]
 pub fn woven_line(
-    top: &[u8], top_lines: LinesNumbers, bottom: &[u8], bottom_lines: LinesNumbers, y: u32, out: &mut [u8],
+    top: &[u8], top_lines: GridNumbers, bottom: &[u8], bottom_lines: GridNumbers, y: u32, out: &mut [u8],
 ) -> u8 {
     // SAFETY: above.
     unsafe {

@@ -62,7 +62,7 @@ impl Detector {
             &mut self.state,
             first as u8,
             picture.bytes,
-            picture.grid(),
+            picture.numbers(),
             &mut self.store,
             &mut cadence,
         );

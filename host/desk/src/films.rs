@@ -79,7 +79,7 @@ pub fn busy_blocks(picture: Lines<'_>, kept: &KeptFrame, field: Parity) -> Resul
     let mut counts = Counts { busy: 0, total: 0 };
     let number = calls::busy(
         picture.bytes,
-        picture.grid(),
+        picture.numbers(),
         store,
         field as u8,
         &mut counts.busy,
@@ -293,7 +293,7 @@ pub(crate) mod tests {
         assert_eq!(refused(shallow), Err(4));
         assert_eq!(refused(picture(&before[1..])), Err(6));
         let (mut busy, mut total) = (7, 8);
-        let grid = picture(&before).grid();
+        let grid = picture(&before).numbers();
         for (store, field, number) in [(&before[1..], 0, 6), (&before[..], 2, 3)] {
             let given = calls::busy(&before, grid, store, field, &mut busy, &mut total);
             assert_eq!((given, busy, total), (number, 7, 8));

@@ -1,6 +1,6 @@
 //! Planes that are lent, and the reads of one sample: crates/desk/src/planes.rt.
 
-use crate::calls::{GridNumbers, LinesNumbers, PlaneNumbers};
+use crate::calls::{GridNumbers, PlaneNumbers};
 use crate::{Refusal, calls};
 
 /// How a component lies in the bytes of its plane. The numbers are the desk's.
@@ -92,16 +92,7 @@ impl<'a> Lines<'a> {
         }
     }
 
-    pub(crate) fn numbers(self) -> LinesNumbers {
-        LinesNumbers {
-            width: self.width,
-            height: self.height,
-            depth: self.depth,
-            stride: self.stride,
-        }
-    }
-
-    pub(crate) fn grid(self) -> GridNumbers {
+    pub(crate) fn numbers(self) -> GridNumbers {
         GridNumbers {
             width: self.width,
             height: self.height,

@@ -15,16 +15,26 @@ plane-bytes-requires c κs = search needs
 frame-bytes-requires : tie.Need-frame-bytes-requires
 frame-bytes-requires c κs = search needs
 
-lowest-of-requires : tie.Need-lowest-of-requires
-lowest-of-requires c κs = search needs
+test-requires : tie.Need-test-requires
+test-requires c κs = search needs
+
+test-requires-2 : tie.Need-test-requires-2
+test-requires-2 c κs = search needs
 
 returns : tie.Need-returns
 unfolding lowest
 returns c =
-    let size = c .before in
+    let size = c .before .before in
     let long = size .before in
     let good = long .before in
-    simp (c .lowest-of .ensures, size .frame-bytes .ensures, long .plane-bytes .ensures, good .good-shape .ensures, good .before .shape-of .ensures)
+    simp (
+      c .test2 .ensures,
+      c .before .test .ensures,
+      size .frame-bytes .ensures,
+      long .plane-bytes .ensures,
+      good .good-shape .ensures,
+      good .before .shape-of .ensures,
+    )
 
 pub count-no-spec : {M : Type 1} → statement M
 count-no-spec =
@@ -34,5 +44,6 @@ count-no-spec =
     good-shape-requires
     plane-bytes-requires
     frame-bytes-requires
-    lowest-of-requires
+    test-requires
+    test-requires-2
     returns)

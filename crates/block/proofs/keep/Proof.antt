@@ -1,8 +1,10 @@
+use mathlib.Core.Path.{sym}
 use lib.ListN.{length}
 use denote.Ref.{now}
 use borrow.Author.Needs.{needs}
+use Rattle.laws.proofs.Refusal.{written-done, stays}
 use Rattle.plane.specs.Plane.{gridShape}
-use Rattle.block.proofs.Passed.{keep-passed, writes, stays}
+use Rattle.block.proofs.Passed.{keep-passed}
 use Rattle.block.proofs.keep.Statement.{statement}
 use Rattle.block.proofs.keep.Tie as tie
 
@@ -20,11 +22,10 @@ same-length c = search needs
 returns : tie.Need-returns
 returns c =
     let test = c .before .before .before .before in
-    let number = test .before .keep-no .ensures in
-    (number, writes (now (test .before .before .before .before .args .store)) number (test .if1 .taken) (c .before .before .keep-rows .ensures))
+    (test .before .keep-no .ensures, written-done _ _ (sym (test .if1 .taken)) (c .before .before .keep-rows .ensures))
 
 returns-2 : tie.Need-returns-2
-returns-2 c = (c .before .keep-no .ensures, stays _ _ (c .before .keep-no .ensures) (c .if1 .left))
+returns-2 c = (c .before .keep-no .ensures, stays _ _ (c .if1 .left))
 
 pub keep-spec : {M : Type 1} → statement M
 keep-spec = tie.close (tie.spec keep-no-requires keep-rows-requires same-length returns returns-2)

@@ -9,8 +9,11 @@ good-shape-requires c κs = search needs
 plane-bytes-requires : tie.Need-plane-bytes-requires
 plane-bytes-requires c κs = search needs
 
-lowest-of-requires : tie.Need-lowest-of-requires
-lowest-of-requires c κs = search needs
+test-requires : tie.Need-test-requires
+test-requires c κs = search needs
+
+test-requires-2 : tie.Need-test-requires-2
+test-requires-2 c κs = search needs
 
 returns : tie.Need-returns
 unfolding lowest
@@ -18,4 +21,4 @@ returns c = cc
 
 pub comb-no-spec : {M : Type 1} → statement M
 comb-no-spec =
-    tie.close (tie.spec good-shape-requires plane-bytes-requires lowest-of-requires returns)
+    tie.close (tie.spec good-shape-requires plane-bytes-requires test-requires test-requires-2 returns)

@@ -12,18 +12,21 @@ area c =
     let b : c .args .width ≤ 65535 = omega arith in
     mul-le-mul a b
 
-mul-lowest-of : tie.Need-mul-lowest-of
-mul-lowest-of c = omega (arith, area c)
+mul-test : tie.Need-mul-test
+mul-test c = omega (arith, area c)
 
-mul-lowest-of-2 : tie.Need-mul-lowest-of-2
-mul-lowest-of-2 c = omega (arith, area c)
+mul-test-2 : tie.Need-mul-test-2
+mul-test-2 c = omega (arith, area c)
 
-lowest-of-requires : tie.Need-lowest-of-requires
-lowest-of-requires c κs = search needs
+test-requires : tie.Need-test-requires
+test-requires c κs = search needs
+
+test-requires-2 : tie.Need-test-requires-2
+test-requires-2 c κs = search needs
 
 returns : tie.Need-returns
 unfolding lowest
-returns c = c .lowest-of .ensures
+returns c = cc
 
 pub rgba-no-spec : {M : Type 1} → statement M
-rgba-no-spec = tie.close (tie.spec mul-lowest-of mul-lowest-of-2 lowest-of-requires returns)
+rgba-no-spec = tie.close (tie.spec mul-test mul-test-2 test-requires test-requires-2 returns)

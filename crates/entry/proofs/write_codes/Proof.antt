@@ -41,8 +41,8 @@ measured-requires c κs = tt
 seen-measured-requires : tie.Need-seen-measured-requires Inv-loop μ-loop
 seen-measured-requires c κs = tt
 
-code-of-requires : tie.Need-code-of-requires Inv-loop μ-loop
-code-of-requires c κs = tt
+seen-code-requires : tie.Need-seen-code-requires Inv-loop μ-loop
+seen-code-requires c κs = tt
 
 slice-write-out : tie.Need-slice-write-out Inv-loop μ-loop
 slice-write-out c = omega arith
@@ -65,7 +65,7 @@ loop-again c =
     let room : loop .k < length (now (start .args .out)) = omega (arith, start .pre .fits, entry .before .loop-test .taken) in
     let code =
     code-given bytes (loop .k) (loop .inv .3) (entry .entry-at .ensures) (first .first .ensures) (measured .measured .ensures)
-    (seen .seen-measured .ensures) (c .code-of .ensures) in (
+    (seen .seen-measured .ensures) (c .seen-code .ensures) in (
       omega (arith, entry .before .loop-test .taken),
       simp length-set (loop .inv .1),
       over-more (loop .k) (codeAt bytes) (now (start .args .out)) (loop .out) _ (loop .inv .2) room code,
@@ -93,7 +93,7 @@ write-codes-spec =
     first-requires
     measured-requires
     seen-measured-requires
-    code-of-requires
+    seen-code-requires
     slice-write-out
     add-k
     loop-less

@@ -1,164 +1,117 @@
-use mathlib.Core.Path.{_≡_, sym, _∙_, ap}
-use mathlib.Core.List.{List}
-use Prim.Native.Nat.{ℕ}
+use mathlib.Core.Path.{_≡_, sym, _∙_}
+use Prim.Native.Nat.{_+_, _-_, _≤_, _<_}
+use native.Mathlib.Omega.{arith}
 use borrow.Author.Needs.{needs}
 use lib.IntN.{pos}
-use lib.Ieee.{Float}
+use lib.ListN.{length, take, drop}
 use denote.Ref.{now}
-use Rattle.laws.specs.Rows.{listed}
-use Rattle.plane.specs.Plane.{valueOf}
-use Rattle.filter.specs.declared.Quality.{Quality}
-use Rattle.filter.specs.declared.Quality.the-variants.{Weave, Bob, Yadif, Bwdif}
-use Rattle.filter.specs.Filter.{Sampler}
-use Rattle.fill.specs.Fill.{lineOf}
-use Rattle.fill.proofs.Expanded.{near-rooms}
-use Rattle.fill.proofs.Chosen.{missingOf, line-kept, line-missing}
+use Rattle.laws.proofs.Lists.{Filled, fill-starts, fill-ends, part-length}
+use Rattle.filter.specs.Making.{sampleIn}
+use Rattle.fill.proofs.Tiles.{tile-more}
 use Rattle.fill.proofs.line.Statement.{statement}
 use Rattle.fill.proofs.line.Tie as tie
 
--- the call's own values, once it is known whether cur's row is kept
-abbrev entry : tie.After-kept → tie.Start
-entry k = k .before .before .before .before .before .before .before
+abbrev Inv-loop : tie.InvT-loop
+Inv-loop out₀ rows₀ making before cur after y left x₀ out rows x =
+    Filled (λ k. sampleIn making before cur after (pos (left + k)) (pos y)) out₀ out x × (length rows ≡ 5240)
 
-abbrev before-of : tie.After-kept → Sampler
-before-of k = let a = entry k .args in valueOf (now (a .before)) (a .before-shape)
+abbrev μ-loop : tie.MeasureT-loop
+μ-loop out₀ rows₀ making before cur after y left x₀ out rows x = length out₀ - x
 
-abbrev cur-of : tie.After-kept → Sampler
-cur-of k = let a = entry k .args in valueOf (now (a .cur)) (a .cur-shape)
+-- where the tile ends
+step :
+    (c : tie.After-shorter Inv-loop μ-loop) →
+    let l = c .before .before in
+    (l .loop .x < c .shorter .result) × (c .shorter .result ≤ length (l .loop .out)) × (c .shorter .result ≤ l .loop .x + 512)
+step c =
+    let e = c .shorter .ensures in
+    let t = c .before .loop-test .taken in
+    (omega (arith, e, t), omega (arith, e), omega (arith, e))
 
-abbrev after-of : tie.After-kept → Sampler
-after-of k = let a = entry k .args in valueOf (now (a .after)) (a .after-shape)
+loop-holds : tie.Need-loop-holds Inv-loop μ-loop
+loop-holds c = (fill-starts, c .before .before .before .before .before .pre .1 .2)
 
-abbrev line-of : tie.After-kept → List Float
-line-of k =
-    let a = entry k .args in
-    lineOf (a .quality) (a .rows) (before-of k) (cur-of k) (after-of k) (a .cur-shape .width) (a .y)
+add-shorter : tie.Need-add-shorter Inv-loop μ-loop
+add-shorter c =
+    let z = c .before .before .before .before .before .before .before in
+    omega (arith, c .loop-test .taken, c .before .loop .inv .0 .long, z .pre .1 .1, z .pre .0 .cur-lent .width-most)
 
--- cur's own row, or what a known quality makes
-own :
-    {line : List Float} (c : tie.Then1) →
-    let k = c .before in
-    line ≡ listed (entry k .args .cur-shape .width) (λ x. cur-of k (pos x) (pos (entry k .args .y))) → line ≡ line-of k
-own c e =
-    let k = c .before in
-    let a = entry k .args in
-    line-kept (a .rows) (before-of k) (cur-of k) (after-of k) (a .quality) (a .cur-shape .width) (a .y) (sym (k .kept .ensures) ∙ c .if1 .taken) e
+shorter-requires : tie.Need-shorter-requires Inv-loop μ-loop
+shorter-requires c κs = search needs
 
-made :
-    {line : List Float} (c : tie.Else1) →
-    let k = c .before in
-    let a = entry k .args in
-    (known : Quality) → a .quality ≡ known →
-    line ≡ listed (a .cur-shape .width) (λ x. missingOf known (before-of k) (cur-of k) (after-of k) (pos x) (pos (a .y))) → line ≡ line-of k
-made c known q e =
-    let k = c .before in
-    let a = entry k .args in
-    line-missing (a .rows) (before-of k) (cur-of k) (after-of k) (a .quality) (a .cur-shape .width) (a .y) known q (sym (k .kept .ensures) ∙ c .if1 .left) e
+mul-tile : tie.Need-mul-tile Inv-loop μ-loop
+mul-tile c = omega (arith, step c)
 
-cast-parity : tie.Need-cast-parity
-cast-parity c = search needs
+sub-tile : tie.Need-sub-tile Inv-loop μ-loop
+sub-tile c = omega (arith, step c)
 
-kept-requires : tie.Need-kept-requires
-kept-requires c κs = search needs
+part-tile-start : tie.Need-part-tile-start Inv-loop μ-loop
+part-tile-start c = omega (arith, step c)
 
-own-line-requires : tie.Need-own-line-requires
-own-line-requires c κs = search needs
+part-tile-end : tie.Need-part-tile-end Inv-loop μ-loop
+part-tile-end c = omega (arith, step c)
 
-same-length : tie.Need-same-length
-same-length c = search needs
+add-tile : tie.Need-add-tile Inv-loop μ-loop
+add-tile c =
+    let z = c .before .before .before .before .before .before .before .before .before .before in
+    omega (arith, c .before .before .before .loop-test .taken, c .before .before .before .before .loop .inv .0 .long, z .pre .1 .1, z .pre .0 .cur-lent .width-most)
 
-returns : tie.Need-returns
-returns c =
-    let e = c .before .before .own-line .ensures in
-    let room = c .before .before .before .before .before .before .before .before .before .before .before .before .before .pre .1 .1 in
-    (own (c .before .before .before .before .before) (e .0), near-rooms _ _ room (record { up = e .1; down = room .eight .near .down }))
+tile-requires : tie.Need-tile-requires Inv-loop μ-loop
+tile-requires c κs =
+    let z = c .before .before .before .before .before .before .before .before .before .before in
+    let l = c .before .before .before .before in
+    let s = step (c .before .before) in
+    let x = l .loop .x in
+    let to = c .before .before .shorter .result in
+    let same = l .loop .inv .0 .long in
+    let long : length (take (to - x) (drop x (l .loop .out))) ≡ to - x = part-length (l .loop .out) x (to - x) (omega (arith, s)) in (
+      z .pre .0,
+      (record {
+        row = z .pre .1 .0;
+        some = omega (arith, long, s);
+        few = omega (arith, long, s);
+        within = omega (arith, long, s, same, z .pre .1 .1);
+      }, l .loop .inv .1),
+    )
 
-enum-told : tie.Need-enum-told
-enum-told c = search needs
+loop-less : tie.Need-loop-less Inv-loop μ-loop
+loop-less c = omega (arith, step (c .before .before .before .before .before .before .before), c .before .before .before .before .before .before .before .before .before .loop .inv .0 .long)
 
-own-line-requires-2 : tie.Need-own-line-requires-2
-own-line-requires-2 c κs = search needs
+loop-again : tie.Need-loop-again Inv-loop μ-loop
+loop-again c =
+    let s = step (c .before .before .before .before .before .before .before) in
+    let l = c .before .before .before .before .before .before .before .before .before in
+    let a = l .before .before .before .before .before .before .args in
+    let e = c .before .before .before .before .tile .ensures in
+    (tile-more (λ x. sampleIn (a .making) (now (a .before)) (now (a .cur)) (now (a .after)) (pos x) (pos (a .y))) (a .left) (l .loop .x) _ (l .loop .inv .0)
+      (omega (arith, s)) (omega (arith, s, l .loop .inv .0 .long)) (e .0), e .1)
 
-enum-told-2 : tie.Need-enum-told-2
-enum-told-2 c = search needs
+same-length : tie.Need-same-length Inv-loop μ-loop
+same-length c = c .before .loop .inv .0 .long
 
-bob-line-requires : tie.Need-bob-line-requires
-bob-line-requires c κs = search needs
+same-length-2 : tie.Need-same-length-2 Inv-loop μ-loop
+same-length-2 c = c .before .loop .inv .1 ∙ sym (c .before .before .before .before .before .before .before .pre .1 .2)
 
-enum-told-3 : tie.Need-enum-told-3
-enum-told-3 c = search needs
-
-yadif-line-requires : tie.Need-yadif-line-requires
-yadif-line-requires c κs =
-    let z = c .before .before .before .before .before .before .before .before .before .before .before .before .before .before .before .before .before .before .before in
-    (z .pre .0, (z .pre .1 .0, z .pre .1 .1 .eight))
-
-enum-told-4 : tie.Need-enum-told-4
-enum-told-4 c = search needs
-
-bwdif-line-requires : tie.Need-bwdif-line-requires
-bwdif-line-requires c κs = search needs
-
-same-length-2 : tie.Need-same-length-2
-same-length-2 c = search needs
-
-returns-2 : tie.Need-returns-2
-returns-2 c =
-    let e = c .before .before .own-line2 .ensures in
-    let k = c .before .before .before .before .before .before .before .before in
-    let z = entry k in
-    let room = z .pre .1 .1 in
-    let same = ap (λ (n : ℕ). listed n (λ x. before-of k (pos x) (pos (z .args .y)))) (z .pre .0 .before-width) in
-    (made (c .before .before .before .before .before .before .before) Weave (c .before .before .before .before .before .enum-told .given .1) (e .0 ∙ same), near-rooms _ _ room (record { up = e .1; down = room .eight .near .down }))
-
-same-length-3 : tie.Need-same-length-3
-same-length-3 c = search needs
-
-returns-3 : tie.Need-returns-3
-returns-3 c =
-    let e = c .before .before .bob-line .ensures in
-    let room = c .before .before .before .before .before .before .before .before .before .before .before .before .before .before .before .before .pre .1 .1 in
-    (made (c .before .before .before .before .before .before .before .before) Bob (c .before .before .before .before .before .before .enum-told2 .given .1) (e .0), near-rooms _ _ room (e .1))
-
-same-length-4 : tie.Need-same-length-4
-same-length-4 c = search needs
-
-returns-4 : tie.Need-returns-4
-returns-4 c =
-    let e = c .before .before .yadif-line .ensures in
-    let room = c .before .before .before .before .before .before .before .before .before .before .before .before .before .before .before .before .before .before .before .before .before .before .pre .1 .1 in
-    (made (c .before .before .before .before .before .before .before .before .before .before .before .before .before .before) Yadif (c .before .before .before .before .before .before .before .before .before .before .before .before .enum-told3 .given .1) (e .0), record { eight = e .1; far = room .far })
-
-same-length-5 : tie.Need-same-length-5
-same-length-5 c = search needs
-
-returns-5 : tie.Need-returns-5
-returns-5 c =
-    let e = c .before .before .bwdif-line .ensures in
-    (made (c .before .before .before .before .before .before .before .before .before .before .before .before .before .before .before .before) Bwdif (c .before .before .before .before .before .before .before .before .before .before .before .before .before .before .enum-told4 .given .1) (e .0), e .1)
+returns : tie.Need-returns Inv-loop μ-loop
+returns c = (fill-ends (c .before .loop .inv .0) (omega arith), c .before .loop .inv .1)
 
 pub line-spec : {M : Type 1} → statement M
 line-spec =
     tie.close
     (tie.spec
-    cast-parity
-    kept-requires
-    own-line-requires
+    Inv-loop
+    μ-loop
+    loop-holds
+    add-shorter
+    shorter-requires
+    mul-tile
+    sub-tile
+    part-tile-start
+    part-tile-end
+    add-tile
+    tile-requires
+    loop-less
+    loop-again
     same-length
-    returns
-    enum-told
-    own-line-requires-2
-    enum-told-2
-    bob-line-requires
-    enum-told-3
-    yadif-line-requires
-    enum-told-4
-    bwdif-line-requires
     same-length-2
-    returns-2
-    same-length-3
-    returns-3
-    same-length-4
-    returns-4
-    same-length-5
-    returns-5)
+    returns)

@@ -1,77 +1,71 @@
-use mathlib.Core.Path.{_≡_, ap, _∙_}
+use mathlib.Core.Path.{_≡_, refl, ap, _∙_}
 use mathlib.Core.List.{List}
-use Prim.Native.Nat.{ℕ, _+_, _-_, _*_, _≤_, zero-le}
-use native.Mathlib.Nat.{mul-le-mul, mul-le-mul-right}
+use Prim.Native.Nat.{ℕ, _+_, _-_, _*_, _≤_}
+use native.Mathlib.Nat.{mul-le-mul}
 use native.Mathlib.Omega.{arith}
 use borrow.Author.Needs.{needs}
 use lib.ListN.{length, length-replicate}
+use lib.Seq.{length-take-le}
 use lib.Ieee.{Float}
 use denote.Ref.{now}
-use Rattle.laws.specs.Rows.{laid, over}
-use Rattle.laws.proofs.Lists.{length-listed, length-laid}
-use Rattle.laws.proofs.Rows.{length-over, length-part, over-no-row, over-row, row-within}
+use Rattle.laws.proofs.Lists.{length-listed, Stacked, stack-starts, stacks, stack-ends}
+use Rattle.laws.proofs.Rows.{length-part, row-within}
 use Rattle.float.specs.Float.{zeroF}
-use Rattle.plane.specs.Plane.{valueOf}
-use Rattle.fill.specs.Fill.{lineOf}
-use Rattle.fill.specs.Band.{bandOf}
-use Rattle.fill.specs.Lines.{TenRooms}
-use Rattle.fill.proofs.Expanded.{fresh-rooms}
+use Rattle.fill.specs.Lines.{sampleTile}
+use Rattle.fill.proofs.Expanded.{spliced}
 use Rattle.fill.proofs.lines.Statement.{statement}
 use Rattle.fill.proofs.lines.Tie as tie
 
 abbrev Inv-loop : tie.InvT-loop
-Inv-loop out₀ quality rows before before-shape cur cur-shape after after-shape from count above₀ below₀ earlier-up₀ earlier₀ earlier-down₀ later-up₀ later₀ later-down₀ far-above₀ far-below₀ width y₀ out above below earlier-up earlier earlier-down later-up later later-down far-above far-below y =
-    (y ≤ count) × (out ≡ over (bandOf quality rows (valueOf before before-shape) (valueOf cur cur-shape) (valueOf after after-shape) (cur-shape .width) from y) out₀)
-    × TenRooms above below earlier-up earlier earlier-down later-up later later-down far-above far-below
+Inv-loop out₀ making before cur after rows₀ height width top left y₀ out rows y =
+    Stacked (λ k. sampleTile making before cur after left width (top + k)) width height out₀ out y × (length rows ≡ 5240)
 
 abbrev μ-loop : tie.MeasureT-loop
-μ-loop out₀ quality rows before before-shape cur cur-shape after after-shape from count above₀ below₀ earlier-up₀ earlier₀ earlier-down₀ later-up₀ later₀ later-down₀ far-above₀ far-below₀ width y₀ out above below earlier-up earlier earlier-down later-up later later-down far-above far-below y =
-    count - y
+μ-loop out₀ making before cur after rows₀ height width top left y₀ out rows y = height - y
 
--- the call's own values, and row y of the band
+-- the call's own values, and row y of the part
 abbrev entry : tie.At-loop Inv-loop μ-loop → tie.Start Inv-loop μ-loop
-entry l = l .before .before .before .before .before .before
+entry l = l .before .before .before .before .before .before .before .before .before
 
 abbrev row-of : tie.At-loop Inv-loop μ-loop → ℕ → List Float
 row-of l y =
     let a = entry l .args in
-    lineOf (a .quality) (a .rows) (valueOf (now (a .before)) (a .before-shape)) (valueOf (now (a .cur)) (a .cur-shape)) (valueOf (now (a .after)) (a .after-shape))
-    (a .cur-shape .width) (a .from + y)
+    sampleTile (a .making) (now (a .before)) (now (a .cur)) (now (a .after)) (a .place .left) (a .place .width) (a .place .top + y)
 
-row-long : (l : tie.At-loop Inv-loop μ-loop) (y : ℕ) → length (row-of l y) ≡ entry l .args .cur-shape .width
-row-long l y = length-listed (entry l .args .cur-shape .width) _
+row-long : (l : tie.At-loop Inv-loop μ-loop) (y : ℕ) → length (row-of l y) ≡ entry l .args .place .width
+row-long l y = length-listed (entry l .args .place .width) _
 
--- the output keeps its length, and has room for the row that is made
-long : (l : tie.At-loop Inv-loop μ-loop) → length (l .loop .out) ≡ length (now (entry l .args .out))
-long l =
-    let z = entry l in
-    let w = z .args .cur-shape .width in
-    let y = l .loop .y in
-    let rows : y * w ≤ z .args .count * w = mul-le-mul-right w (l .loop .inv .0) in
-    let laid-long = length-laid (row-of l) w (row-long l) y in
-    ap length (l .loop .inv .1) ∙ length-over (laid y (row-of l)) (now (z .args .out)) (omega (arith, rows, laid-long, z .pre .1 .1))
-
-small : (c : tie.In-loop Inv-loop μ-loop) → c .before .loop .y * entry (c .before) .args .cur-shape .width ≤ 4352 * 8192
+small : (c : tie.In-loop Inv-loop μ-loop) → c .before .loop .y * entry (c .before) .args .place .width ≤ 4352 * 8192
 small c =
     let z = entry (c .before) in
     let lent = z .pre .0 .cur-lent in
-    let high : c .before .loop .y ≤ 4352 = omega (arith, lent .height-high, z .pre .1 .0) in
-    mul-le-mul high (lent .width-high)
+    let high : c .before .loop .y ≤ 4352 = omega (arith, lent .height-most, z .pre .1 .0 .0, c .loop-test .taken) in
+    let wide : z .args .place .width ≤ 8192 = omega (arith, lent .width-most, z .pre .1 .0 .1) in
+    mul-le-mul high wide
 
 within :
     (c : tie.In-loop Inv-loop μ-loop) →
-    let w = entry (c .before) .args .cur-shape .width in
+    let w = entry (c .before) .args .place .width in
     c .before .loop .y * w + w ≤ length (c .before .loop .out)
 within c =
     let z = entry (c .before) in
-    row-within (c .before .loop .y) (z .args .count) (z .args .cur-shape .width) (length (c .before .loop .out)) (c .loop-test .taken)
-    (omega (arith, z .pre .1 .1, long (c .before)))
+    row-within (c .before .loop .y) (z .args .place .height) (z .args .place .width) (length (c .before .loop .out)) (c .loop-test .taken)
+    (omega (arith, z .pre .1 .1, c .before .loop .inv .0 .long))
+
+cast-height : tie.Need-cast-height Inv-loop μ-loop
+cast-height c = search needs
 
 cast-width : tie.Need-cast-width Inv-loop μ-loop
 cast-width c = search needs
 
+cast-top : tie.Need-cast-top Inv-loop μ-loop
+cast-top c = search needs
+
+cast-left : tie.Need-cast-left Inv-loop μ-loop
+cast-left c = search needs
+
 loop-holds : tie.Need-loop-holds Inv-loop μ-loop
-loop-holds c = (zero-le, over-no-row _ _, fresh-rooms (length-replicate {A = Float} 8204 zeroF))
+loop-holds c = (stack-starts (λ y. length-listed _ _), length-replicate {A = Float} 5240 zeroF)
 
 mul-at : tie.Need-mul-at Inv-loop μ-loop
 mul-at c = omega (arith, small c, within c)
@@ -91,37 +85,55 @@ part-line-start c = omega (arith, small c, within c)
 part-line-end : tie.Need-part-line-end Inv-loop μ-loop
 part-line-end c = omega (arith, small c, within c)
 
+sub-line-2 : tie.Need-sub-line-2 Inv-loop μ-loop
+sub-line-2 c = omega arith
+
+part-rows-start : tie.Need-part-rows-start Inv-loop μ-loop
+part-rows-start c = omega arith
+
+part-rows-end : tie.Need-part-rows-end Inv-loop μ-loop
+part-rows-end c = omega (arith, c .before .before .loop .inv .1)
+
 add-line : tie.Need-add-line Inv-loop μ-loop
-add-line c = omega (arith, entry (c .before .before) .pre .0 .cur-lent .height-high, entry (c .before .before) .pre .1 .0)
+add-line c =
+    let z = entry (c .before .before .before) in
+    omega (arith, c .before .before .loop-test .taken, z .pre .0 .cur-lent .height-most, z .pre .1 .0 .0)
 
 line-requires : tie.Need-line-requires Inv-loop μ-loop
 line-requires c κs =
-    let turn = c .before .before .before .before .before .before .before .before .before .before .before in
+    let turn = c .before .before in
     let l = turn .before in
     let z = entry l in
-    let w = z .args .cur-shape .width in
-    (z .pre .0, ((length-part (l .loop .y * w) w (l .loop .out) (within turn), omega (arith, z .pre .1 .0, turn .loop-test .taken)), l .loop .inv .2))
+    let w = z .args .place .width in
+    let long = length-part (l .loop .y * w) w (l .loop .out) (within turn) in
+    (z .pre .0, (omega (arith, z .pre .1 .0 .0, turn .loop-test .taken), omega (arith, long, z .pre .1 .0 .1), length-take-le 5240 (l .loop .rows) (omega (arith, l .loop .inv .1))))
 
 add-y : tie.Need-add-y Inv-loop μ-loop
-add-y c = omega (arith, c .before .before .before .before .before .before .before .before .before .before .before .before .before .before .loop-test .taken, entry (c .before .before .before .before .before .before .before .before .before .before .before .before .before .before .before) .pre .0 .cur-lent .height-high, entry (c .before .before .before .before .before .before .before .before .before .before .before .before .before .before .before) .pre .1 .0)
+add-y c =
+    let z = entry (c .before .before .before .before .before .before .before) in
+    omega (arith, c .before .before .before .before .before .before .loop-test .taken, z .pre .0 .cur-lent .height-most, z .pre .1 .0 .0)
 
 loop-less : tie.Need-loop-less Inv-loop μ-loop
-loop-less c = omega arith
+loop-less c = omega (arith, c .before .before .before .before .before .before .loop-test .taken)
 
 loop-again : tie.Need-loop-again Inv-loop μ-loop
 loop-again c =
-    let l = c .before .before .before .before .before .before .before .before .before .before .before .before .before .before .before in
-    let a = entry l .args in
-    let e = c .before .before .line .ensures in
-    (omega (arith, c .before .before .before .before .before .before .before .before .before .before .before .before .before .before .loop-test .taken), over-row (l .loop .y) (a .cur-shape .width) (row-of l) (now (a .out)) (l .loop .out) _ (l .loop .inv .1) (row-long l) (e .0), e .1)
+    let turn = c .before .before .before .before .before .before in
+    let l = turn .before in
+    let z = entry l in
+    let w = z .args .place .width in
+    let long = length-part (l .loop .y * w) w (l .loop .out) (within turn) in
+    let e = c .before .before .before .line .ensures in (
+      stacks (row-long l) (l .loop .inv .0) (turn .loop-test .taken) (z .pre .1 .1) refl
+          (e .0 ∙ ap (λ (n : ℕ). sampleTile (z .args .making) (now (z .args .before)) (now (z .args .cur)) (now (z .args .after)) (z .args .place .left) n (z .args .place .top + l .loop .y)) long),
+      spliced (l .loop .rows) (c .before .before .before .line .last .1 .0) 0 5240 (omega arith) (omega (arith, l .loop .inv .1)) (e .1) .size ∙ l .loop .inv .1,
+    )
 
 same-length : tie.Need-same-length Inv-loop μ-loop
-same-length c = long (c .before)
+same-length c = c .before .loop .inv .0 .long
 
 returns : tie.Need-returns Inv-loop μ-loop
-returns c =
-    let e : c .before .loop .y ≡ entry (c .before) .args .count = omega arith in
-    rw e at (c .before .loop .inv .1)
+returns c = stack-ends (row-long (c .before)) (c .before .loop .inv .0) (omega arith)
 
 pub lines-spec : {M : Type 1} → statement M
 lines-spec =
@@ -129,7 +141,10 @@ lines-spec =
     (tie.spec
     Inv-loop
     μ-loop
+    cast-height
     cast-width
+    cast-top
+    cast-left
     loop-holds
     mul-at
     add-to
@@ -137,6 +152,9 @@ lines-spec =
     sub-line
     part-line-start
     part-line-end
+    sub-line-2
+    part-rows-start
+    part-rows-end
     add-line
     line-requires
     add-y

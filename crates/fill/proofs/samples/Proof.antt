@@ -1,5 +1,6 @@
-use mathlib.Core.Path.{_≡_, sym}
+use mathlib.Core.Path.{_≡_, sym, _∙_}
 use mathlib.Core.List.{List}
+use native.Mathlib.Omega.{arith}
 use Prim.Native.Nat.{ℕ, _+_, _*_, _≤_, _<_, zero-le}
 use borrow.Author.Needs.{needs}
 use lib.Dec.{lit<}
@@ -7,9 +8,10 @@ use lib.IntN.{pos}
 use lib.ListN.{length}
 use lib.Ieee.{Float}
 use denote.Ref.{now}
+use Rattle.laws.specs.Rows.{listed}
+use Rattle.laws.proofs.Lists.{same-listed}
 use Rattle.plane.specs.Plane.{sampleBytes, valueOf}
-use Rattle.fill.specs.Lines.{Filled, storedValue}
-use Rattle.fill.proofs.Expanded.{filled-as}
+use Rattle.fill.specs.Lines.{storedValue}
 use Rattle.fill.proofs.Places.{Walk, alone, shared, walk-bytes, walk-pairs, walk-within, walk-value}
 use Rattle.fill.proofs.samples.Statement.{statement}
 use Rattle.fill.proofs.samples.Tie as tie
@@ -26,21 +28,25 @@ asks :
     (y : tie.After-components-of) {at step depth slide : ℕ} →
     let a = entry y .args in
     Along y at step depth slide → step ≤ 4 → slide ≤ 7 →
-    ((length (now (a .dst)) ≡ 8204) × (a .s .width ≤ 8192) × (step ≤ 4) × (slide ≤ 7))
-    × ((x : ℕ) → x < a .s .width → at + step * x + sampleBytes depth ≤ length (now (a .src)))
+    ((a .from + length (now (a .dst)) ≤ 8192) × (step ≤ 4) × (slide ≤ 7))
+    × ((x : ℕ) → x < length (now (a .dst)) → at + step * (a .from + x) + sampleBytes depth ≤ length (now (a .src)))
 asks y w few small =
     let z = entry y in
-    ((z .pre .1 .0, z .pre .0 .width-high, few, small), walk-within (now (z .args .src)) (z .pre .0) (z .pre .1 .1) w)
+    ((omega (arith, z .pre .1 .1, z .pre .0 .width-most), few, small),
+      λ x l. walk-within (now (z .args .src)) (z .pre .0) (z .pre .1 .0) w (z .args .from + x) (omega (arith, z .pre .1 .1)))
 
 gives :
     (y : tie.After-components-of) {at step depth slide : ℕ} {row : List Float} →
     let a = entry y .args in
     let full = y .before .before .before .full-value .result in
-    Along y at step depth slide → Filled row (a .s .width) (λ x. storedValue (now (a .src)) depth slide full (at + step * x)) →
-    Filled row (a .s .width) (λ x. valueOf (now (a .src)) (a .s) (pos x) (pos (a .row)))
-gives y w f =
+    let n = length (now (a .dst)) in
+    Along y at step depth slide → row ≡ listed n (λ x. storedValue (now (a .src)) depth slide full (at + step * (a .from + x))) →
+    row ≡ listed n (λ x. valueOf (now (a .src)) (a .s) (pos (a .from + x)) (pos (a .row)))
+gives y w e =
     let z = entry y in
-    filled-as f (walk-value (now (z .args .src)) (z .pre .0) (z .pre .1 .1) w _ (y .before .before .before .full-value .ensures))
+    e
+    ∙ same-listed _ _ _
+    (λ x l. walk-value (now (z .args .src)) (z .pre .0) (z .pre .1 .0) w _ (y .before .before .before .full-value .ensures) (z .args .from + x) (omega (arith, z .pre .1 .1)))
 
 -- the four walks
 abbrev at : tie.After-components-of → ℕ
@@ -73,9 +79,6 @@ pairs-shared c =
     walk-pairs _ _ (y .before .before .start .ensures .0) (y .before .component-of .ensures .0) (c .before .before .if1 .left)
     (rw (shared (entry y .args .s .layout) (y .components-of .ensures .0) (y .components-of .ensures .1) (c .if3 .left))) (c .before .shift-of .ensures .0)
 
-cast-width : tie.Need-cast-width
-cast-width c = search needs
-
 full-value-requires : tie.Need-full-value-requires
 full-value-requires c κs = search needs
 
@@ -94,8 +97,11 @@ add-scan c = search needs
 scan-requires : tie.Need-scan-requires
 scan-requires c κs = asks (c .before .before .before .before) (bytes-alone (c .before)) (lit< tt) zero-le
 
+same-length : tie.Need-same-length
+same-length c = search needs
+
 returns : tie.Need-returns
-returns c = gives (c .before .before .before .before .before) (bytes-alone (c .before .before)) (c .scan .ensures)
+returns c = gives (c .before .before .before .before .before .before .before) (bytes-alone (c .before .before .before .before)) (c .before .before .scan .ensures)
 
 add-scan-2 : tie.Need-add-scan-2
 add-scan-2 c = search needs
@@ -103,8 +109,11 @@ add-scan-2 c = search needs
 scan-requires-2 : tie.Need-scan-requires-2
 scan-requires-2 c κs = asks (c .before .before .before .before) (bytes-shared (c .before)) (lit< tt) zero-le
 
+same-length-2 : tie.Need-same-length-2
+same-length-2 c = search needs
+
 returns-2 : tie.Need-returns-2
-returns-2 c = gives (c .before .before .before .before .before) (bytes-shared (c .before .before)) (c .scan2 .ensures)
+returns-2 c = gives (c .before .before .before .before .before .before .before) (bytes-shared (c .before .before .before .before)) (c .before .before .scan2 .ensures)
 
 shift-of-requires : tie.Need-shift-of-requires
 shift-of-requires c κs = search needs
@@ -118,8 +127,11 @@ add-scan-3 c = search needs
 scan-requires-3 : tie.Need-scan-requires-3
 scan-requires-3 c κs = asks (c .before .before .before .before .before) (pairs-alone (c .before)) (lit< tt) (c .before .before .shift-of .ensures .1)
 
+same-length-3 : tie.Need-same-length-3
+same-length-3 c = search needs
+
 returns-3 : tie.Need-returns-3
-returns-3 c = gives (c .before .before .before .before .before .before) (pairs-alone (c .before .before)) (c .scan3 .ensures)
+returns-3 c = gives (c .before .before .before .before .before .before .before .before) (pairs-alone (c .before .before .before .before)) (c .before .before .scan3 .ensures)
 
 mul-scan-2 : tie.Need-mul-scan-2
 mul-scan-2 c = search needs
@@ -130,30 +142,36 @@ add-scan-4 c = search needs
 scan-requires-4 : tie.Need-scan-requires-4
 scan-requires-4 c κs = asks (c .before .before .before .before .before) (pairs-shared (c .before)) (lit< tt) (c .before .before .shift-of .ensures .1)
 
+same-length-4 : tie.Need-same-length-4
+same-length-4 c = search needs
+
 returns-4 : tie.Need-returns-4
-returns-4 c = gives (c .before .before .before .before .before .before) (pairs-shared (c .before .before)) (c .scan4 .ensures)
+returns-4 c = gives (c .before .before .before .before .before .before .before .before) (pairs-shared (c .before .before .before .before)) (c .before .before .scan4 .ensures)
 
 pub samples-spec : {M : Type 1} → statement M
 samples-spec =
     tie.close
     (tie.spec
-    cast-width
     full-value-requires
     start-requires
     component-of-requires
     components-of-requires
     add-scan
     scan-requires
+    same-length
     returns
     add-scan-2
     scan-requires-2
+    same-length-2
     returns-2
     shift-of-requires
     mul-scan
     add-scan-3
     scan-requires-3
+    same-length-3
     returns-3
     mul-scan-2
     add-scan-4
     scan-requires-4
+    same-length-4
     returns-4)

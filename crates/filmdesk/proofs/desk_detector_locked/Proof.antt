@@ -26,7 +26,7 @@ unfolding lowest
 returns-2 c =
     let found = c .before .before in
     simp (le-leb _ _ (found .before .if1 .left))
-    (refl, c .one-if .ensures ∙ ap numberIf (c .before .locked .ensures ∙ ap (λ (d : Detector). ltb (d .lock .phase) 5) (found .outline-in .ensures)))
+    (refl, c .one-if .ensures ∙ ap numberIf (c .before .locked .ensures ∙ ap (λ (d : Detector). ltb (d .lock .course .phase) 5) (found .outline-in .ensures)))
 
 pub desk-detector-locked-spec : {M : Type 1} → statement M
 desk-detector-locked-spec =

@@ -4,12 +4,11 @@ use denote.Ref.{now}
 use borrow.Author.Needs.{needs}
 use borrow.Author.Tests.{le-leb, lt-leb}
 use Rattle.laws.specs.Refusal.{lowest, whenDone}
-use Rattle.laws.proofs.Refusal.{number-behind}
+use Rattle.laws.proofs.Refusal.{Tells, told-number, told-value, told-nothing, number-behind}
 use Rattle.field.specs.Field.{cadenceNumber}
 use Rattle.pulldown.specs.Lock.{answerNo, answerValues, predictCadence}
 use Rattle.filmdesk.specs.Kept.{detectorIn}
 use Rattle.filmdesk.specs.Film.{predictStateNo}
-use Rattle.filmdesk.proofs.General.{Answered, said, value, stays}
 use Rattle.filmdesk.proofs.desk_detector_predict.Statement.{statement}
 use Rattle.filmdesk.proofs.desk_detector_predict.Tie as tie
 
@@ -35,7 +34,7 @@ enum-known-no c = search needs
 -- the detector's own answer, as one of this call
 answered :
     (k : tie.After-predict) → let a = k .before .before .before .before .args in
-    Answered answerNo answerValues (k .predict .result) (predictStateNo (length (now (a .state))) (a .ahead)) (predictCadence (detectorIn (now (a .state)) .lock) (a .ahead))
+    Tells answerNo answerValues (k .predict .result) (predictStateNo (length (now (a .state))) (a .ahead)) (predictCadence (detectorIn (now (a .state)) .lock) (a .ahead))
 answered k =
     let found = k .before in
     let a = k .before .before .before .before .args in
@@ -50,13 +49,13 @@ returns-2 : tie.Need-returns-2
 returns-2 c =
     let known = c .before .before in
     let h = answered (known .before .before) in
-    (said h (known .foretold .given .1), c .number .ensures ∙ ap cadenceNumber (value h (known .foretold .given .1) refl refl))
+    (told-number h (known .foretold .given .1), c .number .ensures ∙ ap cadenceNumber (told-value h (known .foretold .given .1) refl refl))
 
 returns-3 : tie.Need-returns-3
 returns-3 c =
     let known = c .before in
     let h = answered (known .before .before) in
-    (said h (known .no .given .1), stays h (known .no .given .1) refl _ _)
+    (told-number h (known .no .given .1), told-nothing h (known .no .given .1) refl _ _)
 
 pub desk-detector-predict-spec : {M : Type 1} → statement M
 desk-detector-predict-spec =

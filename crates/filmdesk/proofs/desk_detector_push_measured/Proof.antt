@@ -6,13 +6,13 @@ use denote.Ref.{now}
 use borrow.Author.Needs.{needs}
 use borrow.Author.Tests.{le-leb, lt-leb, not-true, not-false}
 use Rattle.laws.specs.Refusal.{lowest, whenDone, written}
+use Rattle.laws.proofs.Refusal.{Tells, told-number, told-value, told-nothing}
 use Rattle.field.specs.Field.{cadenceNumber, parityNamed}
 use Rattle.pulldown.specs.declared.Answer.{Answer}
 use Rattle.pulldown.specs.Lock.{answerNo, answerValues}
 use Rattle.telecine.specs.Detector.{measuredTests, measuredCadence, measuredDetector}
 use Rattle.filmdesk.specs.Kept.{detectorIn, keeping}
 use Rattle.filmdesk.specs.Film.{measuredNamed, measuredStateNo}
-use Rattle.filmdesk.proofs.General.{Answered, said, value, stays}
 use Rattle.filmdesk.proofs.Calls.{behind-two}
 use Rattle.filmdesk.proofs.desk_detector_push_measured.Statement.{statement}
 use Rattle.filmdesk.proofs.desk_detector_push_measured.Tie as tie
@@ -53,7 +53,7 @@ same-length c = search needs
 -- the detector's own answer, as one of this call, and the state that it leaves
 answered :
     (k : tie.After-push-counts) → let a = k .before .before .before .before .before .before .before .args in
-    Answered answerNo answerValues (k .push-counts .result) (measuredStateNo (a .parity) (a .present) (length (now (a .state))) (detectorIn (now (a .state))))
+    Tells answerNo answerValues (k .push-counts .result) (measuredStateNo (a .parity) (a .present) (length (now (a .state))) (detectorIn (now (a .state))))
     (measuredCadence (detectorIn (now (a .state))) (parityNamed (a .parity)) (measuredNamed (a .present) (a .busy) (a .total) (a .other-busy) (a .other-total)))
 answered k =
     let passed = k .before .before .before .before in
@@ -63,9 +63,9 @@ answered k =
     behind-two 3 6 (measuredTests d) (not-false (leb (a .parity) 1 && leb (a .present) 1) (passed .before .if1 .left)) (le-leb _ _ (passed .if2 .left))
     in
     record {
-      number-is = k .push-counts .ensures .0 .0 ∙ number;
+      number-is = k .push-counts .ensures .0 ∙ number;
       values-are =
-          k .push-counts .ensures .0 .1
+          k .push-counts .ensures .1 .0
           ∙ (λ i. whenDone (number i) (measuredCadence d (k .before .named .ensures i) (k .before .before .before .measured-named .ensures i)));
     }
 
@@ -77,7 +77,7 @@ left-behind :
     (now (a .state))
 left-behind k known =
     let a = k .before .before .before .before .before .before .before .args in
-    k .push-counts .ensures .1
+    k .push-counts .ensures .1 .1
     ∙ (λ i. written (answerNo (known i)) (keeping (measuredDetector (detectorIn (now (a .state))) (k .before .named .ensures i) (k .before .before .before .measured-named .ensures i)) (now (a .state))) (now (a .state)))
 
 returns-3 : tie.Need-returns-3
@@ -85,7 +85,7 @@ returns-3 c =
     let known = c .before .before in
     let k = known .before .before .before .before in
     let h = answered k in
-    (said h (known .found .given .1), (left-behind k (known .found .given .1), c .number .ensures ∙ ap cadenceNumber (value h (known .found .given .1) refl refl)))
+    (told-number h (known .found .given .1), (left-behind k (known .found .given .1), c .number .ensures ∙ ap cadenceNumber (told-value h (known .found .given .1) refl refl)))
 
 same-length-2 : tie.Need-same-length-2
 same-length-2 c = search needs
@@ -95,7 +95,7 @@ returns-4 c =
     let known = c .before in
     let k = known .before .before .before .before in
     let h = answered k in
-    (said h (known .no .given .1), (left-behind k (known .no .given .1), stays h (known .no .given .1) refl _ _))
+    (told-number h (known .no .given .1), (left-behind k (known .no .given .1), told-nothing h (known .no .given .1) refl _ _))
 
 pub desk-detector-push-measured-spec : {M : Type 1} → statement M
 desk-detector-push-measured-spec =

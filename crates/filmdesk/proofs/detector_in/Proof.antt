@@ -1,6 +1,5 @@
-use mathlib.Core.Path.{_∙_}
 use borrow.Author.Needs.{needs}
-use Rattle.pulldown.specs.Lock.{lockWith}
+use Rattle.filmdesk.specs.Inner.{detectorWith}
 use Rattle.filmdesk.proofs.detector_in.Statement.{statement}
 use Rattle.filmdesk.proofs.detector_in.Tie as tie
 
@@ -10,9 +9,6 @@ ring-in-requires c κs = search needs
 course-in-requires : tie.Need-course-in-requires
 course-in-requires c κs = search needs
 
-lock-with-requires : tie.Need-lock-with-requires
-lock-with-requires c κs = search needs
-
 kept-in-requires : tie.Need-kept-in-requires
 kept-in-requires c κs = search needs
 
@@ -21,12 +17,8 @@ last-in-requires c κs = search needs
 
 returns : tie.Need-returns
 returns c =
-    let made = c .before .before in
-    λ i. record {
-      lock = (made .lock-with .ensures ∙ (λ j. lockWith (made .before .before .ring-in .ensures j) (made .before .course-in .ensures j))) i;
-      kept = c .before .kept-in .ensures i;
-      last = c .last-in .ensures i;
-    }
+    let course = c .before .before in
+    λ i. detectorWith (course .before .ring-in .ensures i) (course .course-in .ensures i) (c .before .kept-in .ensures i) (c .last-in .ensures i)
 
 pub detector-in-spec : {M : Type 1} → statement M
 detector-in-spec =
@@ -34,7 +26,6 @@ detector-in-spec =
     (tie.spec
     ring-in-requires
     course-in-requires
-    lock-with-requires
     kept-in-requires
     last-in-requires
     returns)

@@ -37,8 +37,8 @@ size-in-requires-2 c κs = search needs
 number-at-requires-4 : tie.Need-number-at-requires-4
 number-at-requires-4 c κs = search needs
 
-parity-in-requires : tie.Need-parity-in-requires
-parity-in-requires c κs = search needs
+named-requires : tie.Need-named-requires
+named-requires c κs = search needs
 
 returns : tie.Need-returns
 unfolding detectorIn
@@ -51,7 +51,7 @@ returns c =
       held = not (eqb ((held .number-at .ensures ∙ front-number bytes 5 (lit< tt)) i) 0);
       width = (width .size-in .ensures ∙ ap (λ (n : ℕ). n % 65536) (width .before .number-at2 .ensures ∙ front-number bytes 6 (lit< tt))) i;
       height = (height .size-in2 .ensures ∙ ap (λ (n : ℕ). n % 65536) (height .before .number-at3 .ensures ∙ front-number bytes 7 (lit< tt))) i;
-      first = (c .parity-in .ensures ∙ ap parityNamed (c .before .number-at4 .ensures ∙ front-number bytes 8 (lit< tt))) i;
+      first = (c .named .ensures ∙ ap parityNamed (c .before .number-at4 .ensures ∙ front-number bytes 8 (lit< tt))) i;
     }
 
 pub kept-in-spec : {M : Type 1} → statement M
@@ -67,5 +67,5 @@ kept-in-spec =
     number-at-requires-3
     size-in-requires-2
     number-at-requires-4
-    parity-in-requires
+    named-requires
     returns)

@@ -3,15 +3,15 @@ use lib.ListN.{length}
 use denote.Ref.{now}
 use borrow.Author.Needs.{needs}
 use Rattle.laws.specs.Refusal.{whenDone}
-use Rattle.field.specs.declared.Chosen.the-variants as chosen
+use Rattle.laws.proofs.Refusal.{Tells, told-number, told-nothing}
 use Rattle.pulldown.specs.declared.Lock.{Lock}
 use Rattle.pulldown.specs.Lock.{answerNo, answerValues, pushNo, pushCadence, pushLock, lockWith}
 use Rattle.telecine.specs.declared.Detector.{Detector}
-use Rattle.telecine.specs.Detector.{seenMeasured, measuredNo, measuredCadence}
+use Rattle.telecine.specs.Detector.{seenMeasured, lastAfter, measuredNo, measuredCadence}
+use Rattle.telecine.proofs.Calls.{measured-left}
 use Rattle.filmdesk.specs.Kept.{detectorIn, keeping}
 use Rattle.filmdesk.specs.Inner.{detectorWith}
-use Rattle.filmdesk.proofs.General.{Answered, said, stays}
-use Rattle.filmdesk.proofs.Kept.{found-ring, measured-parts, pushed-lock}
+use Rattle.filmdesk.proofs.Kept.{found-ring, pushed-lock}
 use Rattle.filmdesk.proofs.push_counts.Statement.{statement}
 use Rattle.filmdesk.proofs.push_counts.Tie as tie
 
@@ -30,35 +30,35 @@ last-in-requires c κs = search needs
 seen-measured-requires : tie.Need-seen-measured-requires
 seen-measured-requires c κs = search needs
 
-push-apart-requires : tie.Need-push-apart-requires
-push-apart-requires c κs = search needs
+step-requires : tie.Need-step-requires
+step-requires c κs = search needs
 
 enum-known-answer : tie.Need-enum-known-answer
 enum-known-answer c = search needs
 
 -- What was read of the state makes up its lock, and with the counts what was seen.
-lock-read : (k : tie.After-push-apart) → let read = k .before .before .before .before .before .before .before in
+lock-read : (k : tie.After-step) → let read = k .before .before .before .before .before .before .before in
     lockWith (read .before .before .ring-in .result) (read .course-in .result) ≡ detectorIn (now (read .before .before .before .before .before .args .state)) .lock
 lock-read k = let read = k .before .before .before .before .before .before .before in λ i. lockWith (read .before .before .ring-in .ensures i) (read .course-in .ensures i)
 
-seen-read : (k : tie.After-push-apart) → let a = k .before .before .before .before .before .before .before .before .before .before .before .before .args in
+seen-read : (k : tie.After-step) → let a = k .before .before .before .before .before .before .before .before .before .before .before .before .args in
     k .before .before .seen-measured .result ≡ seenMeasured (detectorIn (now (a .state)) .last) (a .first) (a .measured)
 seen-read k =
     let a = k .before .before .before .before .before .before .before .before .before .before .before .before .args in
     k .before .before .seen-measured .ensures ∙ (λ i. seenMeasured (k .before .before .before .last-in .ensures i) (a .first) (a .measured))
 
--- the lock's own answer, as one of this call, and the lock that it hands back
-answered : (k : tie.After-push-apart) → let a = k .before .before .before .before .before .before .before .before .before .before .before .before .args in
-    Answered answerNo answerValues (k .push-apart .result .answer) (measuredNo (detectorIn (now (a .state)))) (measuredCadence (detectorIn (now (a .state))) (a .first) (a .measured))
+-- the step's own answer, as one of this call, and the lock that it hands back
+answered : (k : tie.After-step) → let a = k .before .before .before .before .before .before .before .before .before .before .before .before .args in
+    Tells answerNo answerValues (k .step .result .answer) (measuredNo (detectorIn (now (a .state)))) (measuredCadence (detectorIn (now (a .state))) (a .first) (a .measured))
 answered k = record {
-  number-is = k .push-apart .ensures .1 ∙ (λ i. pushNo (lock-read k i));
-  values-are = k .push-apart .ensures .2 ∙ (λ i. whenDone (pushNo (lock-read k i)) (pushCadence (lock-read k i) (seen-read k i)));
+  number-is = k .step .ensures .1 .1 .0 ∙ (λ i. pushNo (lock-read k i));
+  values-are = k .step .ensures .1 .1 .1 ∙ (λ i. whenDone (pushNo (lock-read k i)) (pushCadence (lock-read k i) (seen-read k i)));
 }
 
-handed-back : (k : tie.After-push-apart) → let a = k .before .before .before .before .before .before .before .before .before .before .before .before .args in
-    lockWith (k .push-apart .last .0) (k .push-apart .result .course)
+handed-back : (k : tie.After-step) → let a = k .before .before .before .before .before .before .before .before .before .before .before .before .args in
+    lockWith (k .step .last .0) (k .step .result .course)
     ≡ pushLock (detectorIn (now (a .state)) .lock) (seenMeasured (detectorIn (now (a .state)) .last) (a .first) (a .measured))
-handed-back k = k .push-apart .ensures .0 ∙ (λ i. pushLock (lock-read k i) (seen-read k i))
+handed-back k = k .step .ensures .0 ∙ (λ i. pushLock (lock-read k i) (seen-read k i))
 
 keep-apart-requires : tie.Need-keep-apart-requires
 keep-apart-requires c κs =
@@ -80,13 +80,15 @@ returns c =
     let k = known .before .before .before in
     let a = k .before .before .before .before .before .before .before .before .before .before .before .before .args in
     let d = detectorIn (now (a .state)) in
-    let h = answered k in
-    let number = said h (known .answer .given .1) in (
-      (number, sym (ap answerValues (known .answer .given .1)) ∙ h .values-are),
-      c .before .before .keep-apart .ensures
-          ∙ ap (λ (d : Detector). keeping d (now (a .state)))
-          ((λ i. detectorWith (k .push-apart .last .0) (k .push-apart .result .course) (k .before .before .before .before .before .kept-in .ensures i) (chosen.Field (a .first)))
-          ∙ measured-parts d (a .first) (a .measured) _ _ (handed-back k) (sym number)),
+    let h = answered k in (
+      told-number h (known .answer .given .1),
+      (
+        sym (ap answerValues (known .answer .given .1)) ∙ h .values-are,
+        c .before .before .keep-apart .ensures
+            ∙ ap (λ (d : Detector). keeping d (now (a .state)))
+            ((λ i. detectorWith (k .step .last .0) (k .step .result .course) (k .before .before .before .before .before .kept-in .ensures i) (k .step .result .last))
+            ∙ measured-left d (a .first) (a .measured) refl (handed-back k) (k .step .ensures .1 .0 ∙ (λ i. lastAfter (lock-read k i) (k .before .before .before .last-in .ensures i) (a .first)))),
+      ),
     )
 
 same-length-2 : tie.Need-same-length-2
@@ -96,8 +98,8 @@ returns-2 : tie.Need-returns-2
 returns-2 c =
     let known = c .before in
     let h = answered (known .before .before .before) in (
-      (said h (known .answer2 .given .1), sym (ap answerValues (known .answer2 .given .1)) ∙ h .values-are),
-      stays h (known .answer2 .given .1) refl _ _,
+      told-number h (known .answer2 .given .1),
+      (sym (ap answerValues (known .answer2 .given .1)) ∙ h .values-are, told-nothing h (known .answer2 .given .1) refl _ _),
     )
 
 pub push-counts-spec : {M : Type 1} → statement M
@@ -109,7 +111,7 @@ push-counts-spec =
     kept-in-requires
     last-in-requires
     seen-measured-requires
-    push-apart-requires
+    step-requires
     enum-known-answer
     keep-apart-requires
     enum-known-answer-2

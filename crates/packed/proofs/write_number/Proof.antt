@@ -7,7 +7,7 @@ use borrow.Author.Needs.{needs}
 use Rattle.laws.specs.Rows.{listed}
 use Rattle.laws.proofs.Lists.{Filled, fill-starts, fills, fill-ends}
 use Rattle.packed.specs.Packed.{eightBytes}
-use Rattle.packed.proofs.General.{next-digit, no-digit}
+use Rattle.laws.proofs.Digits.{next-digit, no-digit}
 use Rattle.packed.proofs.write_number.Statement.{statement}
 use Rattle.packed.proofs.write_number.Tie as tie
 

@@ -3,7 +3,7 @@ use mathlib.Core.Bool.{true, _&&_}
 use Prim.Native.Nat.{ℕ, _<_}
 use native.Mathlib.Nat.{lt-trans}
 use native.Mathlib.Omega.{arith}
-use lib.Dec.{T}
+use lib.Dec.{T, lit<}
 use lib.IntN.{ℤ, natAbs}
 use lib.Signed.{nonNeg}
 use lib.ListN.{length}
@@ -11,11 +11,10 @@ use denote.Ref.{now}
 use mir.Syntax.{w16}
 use mir.Val.{Fits}
 use mir.Facts.{toZ-ofZ}
-use borrow.Author.Tests.{leb-true}
-use Rattle.laws.specs.Refusal.{lowest, rising}
-use Rattle.laws.proofs.Refusal.{AllPass, all-pass, gives, refuses}
+use Rattle.laws.specs.Refusal.{lowest}
+use Rattle.laws.proofs.Refusal.{gives, refuses, first-passes}
 use Rattle.plane.specs.Plane.{codeOf}
-use Rattle.plane.specs.Answer.{readTests, codeTests, codeNo}
+use Rattle.plane.specs.Answer.{readTests, codeNo}
 use Rattle.plane.specs.Coordinates.{inside}
 use Rattle.plane.proofs.Coordinates.{both-inside, inside-nonneg, inside-below}
 use borrow.Author.Needs.{needs}
@@ -46,23 +45,16 @@ number c =
 done : (c : tie.Then1) → let a = entry (c .before) .args in codeNo (a .s) (length (now (a .plane))) (a .x) (a .y) ≡ 0
 done c = sym (number (c .before)) ∙ sym (c .before .read-no .ensures) ∙ c .if1 .taken
 
-passed : (c : tie.Then1) → let a = entry (c .before) .args in AllPass (codeTests (a .s) (length (now (a .plane))) (a .x) (a .y))
-unfolding rising
-passed c = all-pass _ tt (done c)
-
 inner :
     (c : tie.Then1) →
     let a = entry (c .before) .args in
     (inside (a .s .width) (a .x) ≡ true) × (inside (a .s .height) (a .y) ≡ true)
-inner c = both-inside _ _ (passed c .0)
+inner c = both-inside _ _ (first-passes 3 _ _ (lit< tt) (done c))
 
 -- a coordinate inside a plane, as the machine holds it, fits the narrow type
 narrow : (size : ℕ) (x : ℤ) {z : ℤ} → size < 65536 → inside size x ≡ true → z ≡ x → T (nonNeg z) × Fits w16 (natAbs z)
 narrow size x small h e =
     subst (λ (z : ℤ). T (nonNeg z) × Fits w16 (natAbs z)) (sym e) (inside-nonneg size x h, record { fits = lt-trans (inside-below size x h) small })
-
-below : (size : ℕ) (x : ℤ) {z : ℤ} → inside size x ≡ true → z ≡ x → natAbs z < size
-below size x h e = subst (λ (z : ℤ). natAbs z < size) (sym e) (inside-below size x h)
 
 is-inside-requires : tie.Need-is-inside-requires
 is-inside-requires c κs = search needs
@@ -73,31 +65,25 @@ is-inside-requires-2 c κs = search needs
 read-no-requires : tie.Need-read-no-requires
 read-no-requires c κs = search needs
 
-cast-code-inside : tie.Need-cast-code-inside
-cast-code-inside c =
+cast-code-at : tie.Need-cast-code-at
+cast-code-at c =
     let start = entry (c .before) in
     narrow (start .args .s .width) (start .args .x) (omega arith) (inner c .0) (toZ-ofZ (start .fits .x))
 
-cast-code-inside-2 : tie.Need-cast-code-inside-2
-cast-code-inside-2 c =
+cast-code-at-2 : tie.Need-cast-code-at-2
+cast-code-at-2 c =
     let start = entry (c .before) in
     narrow (start .args .s .height) (start .args .y) (omega arith) (inner c .1) (toZ-ofZ (start .fits .y))
 
-code-inside-requires : tie.Need-code-inside-requires
-code-inside-requires c κs =
-    let start = entry (c .before) in
-    let a = start .args in (
-      below (a .s .width) (a .x) (inner c .0) (toZ-ofZ (start .fits .x)),
-      below (a .s .height) (a .y) (inner c .1) (toZ-ofZ (start .fits .y)),
-      leb-true _ _ (passed c .1 .1 .0),
-    )
+code-at-requires : tie.Need-code-at-requires
+code-at-requires c κs = search needs
 
 returns : tie.Need-returns
 returns c =
     let start = entry (c .before .before) in
     let a = start .args in
     gives refl (done (c .before))
-    (c .code-inside .ensures ∙ (λ i. codeOf (now (a .plane)) (a .s) (natAbs (toZ-ofZ (start .fits .x) i)) (natAbs (toZ-ofZ (start .fits .y) i))))
+    (c .code-at .ensures ∙ (λ i. codeOf (now (a .plane)) (a .s) (natAbs (toZ-ofZ (start .fits .x) i)) (natAbs (toZ-ofZ (start .fits .y) i))))
 
 returns-2 : tie.Need-returns-2
 returns-2 c = refuses _ (c .before .read-no .ensures ∙ number (c .before)) (c .if1 .left)
@@ -109,8 +95,8 @@ code-spec =
     is-inside-requires
     is-inside-requires-2
     read-no-requires
-    cast-code-inside
-    cast-code-inside-2
-    code-inside-requires
+    cast-code-at
+    cast-code-at-2
+    code-at-requires
     returns
     returns-2)

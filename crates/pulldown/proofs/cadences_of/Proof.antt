@@ -9,6 +9,7 @@ use borrow.Author.Needs.{needs}
 use Rattle.laws.specs.Refusal.{lowest}
 use Rattle.laws.proofs.Lists.{Filled, fill-starts, fills, fill-ends}
 use Rattle.field.specs.Field.{cadenceNumber}
+use Rattle.pulldown.specs.declared.Lock.{Lock}
 use Rattle.pulldown.specs.Codes.{seenBefore, cadenceOfCode}
 use Rattle.pulldown.proofs.Codes.{Known, unread, still-known, cadence-known}
 use Rattle.pulldown.proofs.cadences_of.Statement.{statement}
@@ -20,13 +21,18 @@ Inv-loop codes₀ ring₀ course₀ k₀ codes ring course k = Filled (cadenceOf
 abbrev μ-loop : tie.MeasureT-loop
 μ-loop codes₀ ring₀ course₀ k₀ codes ring course k = length codes₀ - k
 
+new-requires : tie.Need-new-requires Inv-loop μ-loop
+new-requires c κs = tt
+
 returns : tie.Need-returns Inv-loop μ-loop
 unfolding lowest
 returns c = (simp (lt-leb _ _ (c .if1 .taken)), refl)
 
 loop-holds : tie.Need-loop-holds Inv-loop μ-loop
 unfolding seenBefore
-loop-holds c = (fill-starts, record { lock = refl; count = refl; next = omega arith })
+loop-holds c =
+    let fresh = c .before .before .new .ensures in
+    (fill-starts, record { lock = fresh; count = ap (λ (l : Lock). l .course .taken) fresh; next = omega (arith, ap (λ (l : Lock). l .course .next) fresh) })
 
 slice-read-take-code : tie.Need-slice-read-take-code Inv-loop μ-loop
 slice-read-take-code c = search needs
@@ -53,7 +59,7 @@ loop-again : tie.Need-loop-again Inv-loop μ-loop
 loop-again c =
     let take = c .before .before in
     let loop = take .before .before .before .before .loop in
-    let start = take .before .before .before .before .before .before .before in
+    let start = take .before .before .before .before .before .before .before .before .before .before in
     let codes = now (start .args .codes) in
     let filled = loop .inv .0 in
     let room : loop .k < length codes = omega (arith, filled .long) in
@@ -72,7 +78,7 @@ returns-2 : tie.Need-returns-2 Inv-loop μ-loop
 unfolding lowest
 returns-2 c =
     let filled = c .before .loop .inv .0 in
-    let test = c .before .before in
+    let test = c .before .before .before .before .before in
     (simp (le-leb _ _ (test .if1 .left)), fill-ends filled (omega (arith, filled .long, c .loop-test .left)))
 
 pub cadences-of-spec : {M : Type 1} → statement M
@@ -82,6 +88,7 @@ cadences-of-spec =
     Inv-loop
     μ-loop
     returns
+    new-requires
     loop-holds
     slice-read-take-code
     take-code-requires

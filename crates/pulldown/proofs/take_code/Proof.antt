@@ -17,7 +17,7 @@ unfolding advanceOf
 returns c =
     let start = c .before .before in
     let ended = c .end-run .ensures (now (start .args .ring)) in
-    (simp (le-ltb _ 4 (c .before .if1 .taken), ended), omega (arith, start .pre .0, ap (λ (l : Lock). l .next) ended))
+    (simp (le-ltb _ 4 (c .before .if1 .taken), ended), omega (arith, start .pre .0, ap (λ (l : Lock). l .course .next) ended))
 
 symbol-of-requires : tie.Need-symbol-of-requires
 symbol-of-requires c κs = search needs

@@ -23,14 +23,14 @@ loop-holds c = stack-starts (λ x. refl)
 mul-i : tie.Need-mul-i Inv-loop μ-loop
 mul-i c = omega arith
 
-add-code-at : tie.Need-add-code-at Inv-loop μ-loop
-add-code-at c = omega arith
+add-word-at : tie.Need-add-word-at Inv-loop μ-loop
+add-word-at c = omega arith
 
-mul-code-at : tie.Need-mul-code-at Inv-loop μ-loop
-mul-code-at c = omega arith
+mul-word-at : tie.Need-mul-word-at Inv-loop μ-loop
+mul-word-at c = omega arith
 
-code-at-requires : tie.Need-code-at-requires Inv-loop μ-loop
-code-at-requires c κs = (omega arith, c .before .before .before .before .pre .2)
+word-at-requires : tie.Need-word-at-requires Inv-loop μ-loop
+word-at-requires c κs = (omega arith, c .before .before .before .before .pre .2)
 
 cast-to : tie.Need-cast-to Inv-loop μ-loop
 cast-to c = omega arith
@@ -56,7 +56,7 @@ loop-less c = omega arith
 loop-again : tie.Need-loop-again Inv-loop μ-loop
 loop-again c =
     stacks-two (λ x. refl) (c .before .before .loop .inv) (c .before .loop-test .taken) (omega arith)
-    (λ i. c .code-at .ensures .0 i % 256 ∷ c .code-at .ensures .0 i / 256 ∷ [])
+    (λ i. c .word-at .ensures .0 i % 256 ∷ c .word-at .ensures .0 i / 256 ∷ [])
 
 same-length : tie.Need-same-length Inv-loop μ-loop
 same-length c = search needs
@@ -72,9 +72,9 @@ copy-every-second-pair-spec =
     μ-loop
     loop-holds
     mul-i
-    add-code-at
-    mul-code-at
-    code-at-requires
+    add-word-at
+    mul-word-at
+    word-at-requires
     cast-to
     slice-write-to
     cast-to-2

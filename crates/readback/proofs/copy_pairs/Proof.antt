@@ -23,8 +23,8 @@ loop-holds c = stack-starts (λ x. refl)
 mul-i : tie.Need-mul-i Inv-loop μ-loop
 mul-i c = omega arith
 
-code-at-requires : tie.Need-code-at-requires Inv-loop μ-loop
-code-at-requires c κs = (omega arith, c .before .before .before .before .pre .1)
+word-at-requires : tie.Need-word-at-requires Inv-loop μ-loop
+word-at-requires c κs = (omega arith, c .before .before .before .before .pre .1)
 
 cast-to : tie.Need-cast-to Inv-loop μ-loop
 cast-to c = omega arith
@@ -50,7 +50,7 @@ loop-less c = omega arith
 loop-again : tie.Need-loop-again Inv-loop μ-loop
 loop-again c =
     stacks-two (λ x. refl) (c .before .before .loop .inv) (c .before .loop-test .taken) (omega arith)
-    (λ i. c .code-at .ensures .0 i % 256 ∷ c .code-at .ensures .0 i / 256 ∷ [])
+    (λ i. c .word-at .ensures .0 i % 256 ∷ c .word-at .ensures .0 i / 256 ∷ [])
 
 same-length : tie.Need-same-length Inv-loop μ-loop
 same-length c = search needs
@@ -66,7 +66,7 @@ copy-pairs-spec =
     μ-loop
     loop-holds
     mul-i
-    code-at-requires
+    word-at-requires
     cast-to
     slice-write-to
     cast-to-2

@@ -131,11 +131,11 @@ loop-holds c = stack-starts (wide (c .before))
 mul-start : tie.Need-mul-start Inv-loop μ-loop
 mul-start c = omega (arith, row-room c)
 
-mul-row-at : tie.Need-mul-row-at Inv-loop μ-loop
-mul-row-at c = omega (arith, row-ends c)
+mul-part : tie.Need-mul-part Inv-loop μ-loop
+mul-part c = omega (arith, row-ends c)
 
-row-at-requires : tie.Need-row-at-requires Inv-loop μ-loop
-row-at-requires c κs = row-ends c
+part-requires : tie.Need-part-requires Inv-loop μ-loop
+part-requires c κs = tt
 
 add-copy-row : tie.Need-add-copy-row Inv-loop μ-loop
 add-copy-row c = omega (arith, row-room (c .before))
@@ -157,7 +157,7 @@ copy-row-requires c κs =
     let l = turn .before .loop in
     let size = found .packed-row .result in (
       record {
-        source = ap length (c .before .row-at .ensures) ∙ part-length (now (a .plane)) (l .y * a .s .stride) _ (row-ends turn) ∙ taken-by-kind found;
+        source = ap length (c .before .part .ensures .0) ∙ part-length (now (a .plane)) (l .y * a .s .stride) _ (row-ends turn) ∙ taken-by-kind found;
         target = length-part (l .y * size) size (l .out) (omega (arith, row-room turn)) ∙ sym (size-by-kind found);
       },
       found .before .before .before .before .before .component-of .ensures .1,
@@ -177,7 +177,7 @@ loop-again c =
     stacks (wide found) (turn .before .loop .inv) (turn .loop-test .taken) (room turn) refl
     (c .before .before .copy-row .ensures
     ∙ ap (λ (row : List ℕ). laid (entry found .args .s .width) (copyIn (kind found) row (lane found) (right found)))
-    (c .before .before .before .before .row-at .ensures))
+    (c .before .before .before .before .part .ensures .0))
 
 same-length : tie.Need-same-length Inv-loop μ-loop
 same-length c = search needs
@@ -212,8 +212,8 @@ copy-rows-spec =
     cast-height
     loop-holds
     mul-start
-    mul-row-at
-    row-at-requires
+    mul-part
+    part-requires
     add-copy-row
     sub-copy-row
     part-copy-row-start

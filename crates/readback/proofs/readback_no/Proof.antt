@@ -1,6 +1,10 @@
+use Rattle.laws.specs.Refusal.{lowest}
 use borrow.Author.Needs.{needs}
 use Rattle.readback.proofs.readback_no.Statement.{statement}
 use Rattle.readback.proofs.readback_no.Tie as tie
+
+counts-requires : tie.Need-counts-requires
+counts-requires c κs = search needs
 
 good-shapes-requires : tie.Need-good-shapes-requires
 good-shapes-requires c κs = search needs
@@ -11,10 +15,23 @@ planes-reach-requires c κs = search needs
 outputs-hold-requires : tie.Need-outputs-hold-requires
 outputs-hold-requires c κs = search needs
 
-lowest-of-requires : tie.Need-lowest-of-requires
-lowest-of-requires c κs = search needs
+test-requires : tie.Need-test-requires
+test-requires c κs = search needs
+
+test-requires-2 : tie.Need-test-requires-2
+test-requires-2 c κs = search needs
+
+test-requires-3 : tie.Need-test-requires-3
+test-requires-3 c κs = search needs
+
+test-requires-4 : tie.Need-test-requires-4
+test-requires-4 c κs = search needs
+
+test-requires-5 : tie.Need-test-requires-5
+test-requires-5 c κs = search needs
 
 returns : tie.Need-returns
+unfolding lowest
 returns c = cc
 
 pub readback-no-spec : {M : Type 1} → statement M
@@ -24,5 +41,10 @@ readback-no-spec =
     good-shapes-requires
     planes-reach-requires
     outputs-hold-requires
-    lowest-of-requires
+    counts-requires
+    test-requires
+    test-requires-2
+    test-requires-3
+    test-requires-4
+    test-requires-5
     returns)

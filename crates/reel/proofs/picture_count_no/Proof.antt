@@ -6,14 +6,15 @@ use Rattle.reel.proofs.picture_count_no.Tie as tie
 picture-bytes-requires : tie.Need-picture-bytes-requires
 picture-bytes-requires c κs = search needs
 
-lowest-of-requires : tie.Need-lowest-of-requires
-lowest-of-requires c κs = search needs
+test-requires : tie.Need-test-requires
+test-requires c κs = search needs
+
+test-requires-2 : tie.Need-test-requires-2
+test-requires-2 c κs = search needs
 
 returns : tie.Need-returns
 unfolding lowest
-returns c =
-    let size = c .before .before in
-    simp (c .lowest-of .ensures, size .picture-bytes .ensures)
+returns c = cc
 
 pub picture-count-no-spec : {M : Type 1} → statement M
-picture-count-no-spec = tie.close (tie.spec picture-bytes-requires lowest-of-requires returns)
+picture-count-no-spec = tie.close (tie.spec picture-bytes-requires test-requires test-requires-2 returns)

@@ -9,12 +9,15 @@ shape-of-requires c κs = search needs
 good-shape-requires : tie.Need-good-shape-requires
 good-shape-requires c κs = search needs
 
-lowest-of-requires : tie.Need-lowest-of-requires
-lowest-of-requires c κs = search needs
+test-requires : tie.Need-test-requires
+test-requires c κs = search needs
+
+test-requires-2 : tie.Need-test-requires-2
+test-requires-2 c κs = search needs
 
 returns : tie.Need-returns
 unfolding lowest
-returns c = simp (c .lowest-of .ensures, c .before .good-shape .ensures, c .before .before .shape-of .ensures)
+returns c = cc
 
 pub shape-no-spec : {M : Type 1} → statement M
-shape-no-spec = tie.close (tie.spec shape-of-requires good-shape-requires lowest-of-requires returns)
+shape-no-spec = tie.close (tie.spec shape-of-requires good-shape-requires test-requires test-requires-2 returns)

@@ -18,17 +18,37 @@ kept-bytes-requires c κs = search needs
 frame-bytes-requires : tie.Need-frame-bytes-requires
 frame-bytes-requires c κs = search needs
 
-lowest-of-requires : tie.Need-lowest-of-requires
-lowest-of-requires c κs = search needs
+test-requires : tie.Need-test-requires
+test-requires c κs = search needs
+
+test-requires-2 : tie.Need-test-requires-2
+test-requires-2 c κs = search needs
+
+test-requires-3 : tie.Need-test-requires-3
+test-requires-3 c κs = search needs
+
+test-requires-4 : tie.Need-test-requires-4
+test-requires-4 c κs = search needs
 
 returns : tie.Need-returns
 unfolding lowest
 returns c =
-    let size = c .before in
+    let output = c .before .before in
+    let size = output .before .before in
     let kept = size .before in
-    let long = kept .before in
+    let long = kept .before .before in
     let good = long .before in
-    simp (c .lowest-of .ensures, size .frame-bytes .ensures, kept .kept-bytes .ensures, long .plane-bytes .ensures, good .good-shape .ensures, good .before .shape-of .ensures)
+    simp (
+      c .test4 .ensures,
+      c .before .test3 .ensures,
+      output .test2 .ensures,
+      output .before .test .ensures,
+      size .frame-bytes .ensures,
+      kept .kept-bytes .ensures,
+      long .plane-bytes .ensures,
+      good .good-shape .ensures,
+      good .before .shape-of .ensures,
+    )
 
 pub picture-no-spec : {M : Type 1} → statement M
 picture-no-spec =
@@ -39,5 +59,8 @@ picture-no-spec =
     plane-bytes-requires
     kept-bytes-requires
     frame-bytes-requires
-    lowest-of-requires
+    test-requires
+    test-requires-2
+    test-requires-3
+    test-requires-4
     returns)

@@ -3,12 +3,6 @@ use borrow.Author.Needs.{needs}
 use Rattle.weave.proofs.line_no.Statement.{statement}
 use Rattle.weave.proofs.line_no.Tie as tie
 
-cast-lowest-of : tie.Need-cast-lowest-of
-cast-lowest-of c = search needs
-
-mul-lowest-of : tie.Need-mul-lowest-of
-mul-lowest-of c = search needs
-
 good-lines-requires : tie.Need-good-lines-requires
 good-lines-requires c κs = search needs
 
@@ -24,8 +18,23 @@ is-whole-requires c κs = search needs
 is-whole-requires-2 : tie.Need-is-whole-requires-2
 is-whole-requires-2 c κs = search needs
 
-lowest-of-requires : tie.Need-lowest-of-requires
-lowest-of-requires c κs = search needs
+cast-test : tie.Need-cast-test
+cast-test c = search needs
+
+mul-test : tie.Need-mul-test
+mul-test c = search needs
+
+test-requires : tie.Need-test-requires
+test-requires c κs = search needs
+
+test-requires-2 : tie.Need-test-requires-2
+test-requires-2 c κs = search needs
+
+test-requires-3 : tie.Need-test-requires-3
+test-requires-3 c κs = search needs
+
+test-requires-4 : tie.Need-test-requires-4
+test-requires-4 c κs = search needs
 
 returns : tie.Need-returns
 unfolding lowest
@@ -35,12 +44,15 @@ pub line-no-spec : {M : Type 1} → statement M
 line-no-spec =
     tie.close
     (tie.spec
-    cast-lowest-of
-    mul-lowest-of
     good-lines-requires
     good-lines-requires-2
     lines-agree-requires
     is-whole-requires
     is-whole-requires-2
-    lowest-of-requires
+    cast-test
+    mul-test
+    test-requires
+    test-requires-2
+    test-requires-3
+    test-requires-4
     returns)

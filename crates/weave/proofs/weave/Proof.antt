@@ -1,42 +1,48 @@
 use mathlib.Core.Path.{_≡_, sym, _∙_}
-use mathlib.Core.Bool.{_&&_}
-use mathlib.Core.List.{[], _∷_}
+use mathlib.Core.Bool.{cond, _&&_}
 use lib.ListN.{length}
 use denote.Ref.{now}
 use Rattle.laws.specs.Refusal.{lowest}
 use Rattle.laws.proofs.Refusal.{written-done, stays}
 use Rattle.weave.specs.Weave.{givenOf, weaveNo}
-use Rattle.weave.proofs.Judged.{Ready, judged}
+use Rattle.weave.proofs.Judged.{PlaneWeavable, judged}
 use borrow.Author.Needs.{needs}
 use Rattle.weave.proofs.weave.Statement.{statement}
 use Rattle.weave.proofs.weave.Tie as tie
 
--- the call's number is the definition's
+-- the call's own values, and the call's number is the definition's
+abbrev entry : tie.After-test4 → tie.Start
+entry c =
+    c .before .before .before .before .before .before .before .before .before .before .before .before .before .before .before .before .before .before .before .before .before
+
 number :
-    (c : tie.After-lowest-of) →
-    let a = c .before .before .before .before .before .before .before .before .before .before .before .before .before .before .before .before .before .before .args in
-    c .lowest-of .result
+    (c : tie.After-test4) →
+    let a = entry c .args in
+    c .test4 .result
     ≡ weaveNo (givenOf (a .top) (now (a .top-luma)) (now (a .top-cb)) (now (a .top-cr)))
     (givenOf (a .bottom) (now (a .bottom-luma)) (now (a .bottom-cb)) (now (a .bottom-cr))) (length (now (a .out-luma))) (length (now (a .out-cb))) (length (now (a .out-cr)))
 unfolding lowest
 number c =
-    c .lowest-of .ensures
-    ∙ (λ i.
-    lowest
-    ((4, c .before .before .before .before .before .before .before .before .good-field .ensures i && c .before .before .before .before .before .before .before .good-field2 .ensures i)
-    ∷ (5, c .before .before .before .before .before .before .lines-agree .ensures i && c .before .before .before .before .before .chroma-fits .ensures i && c .before .before .before .before .chroma-fits2 .ensures i)
-    ∷ (6, c .before .before .before .whole-field .ensures i && c .before .before .whole-field2 .ensures i)
-    ∷ (7, c .before .room-for .ensures i) ∷ []))
+    let room = c .before .before .before in
+    let whole = room .before .before in
+    let same = whole .before .before in
+    let shapes = same .before .before .before in
+    let seven = room .test .ensures ∙ (λ i. cond (room .before .room-for .ensures i) 0 7) in
+    let six = c .before .before .test2 .ensures ∙ (λ i. cond (whole .before .whole-field .ensures i && whole .whole-field2 .ensures i) (seven i) 6) in
+    let five =
+    c .before .test3 .ensures
+    ∙ (λ i. cond (same .before .before .lines-agree .ensures i && same .before .chroma-fits .ensures i && same .chroma-fits2 .ensures i) (six i) 5) in
+    c .test4 .ensures ∙ (λ i. cond (shapes .before .good-field .ensures i && shapes .good-field2 .ensures i) (five i) 4)
 
 -- a call that gets 0 can weave each plane
 passed :
     (c : tie.Then1) →
-    let a = c .before .before .before .before .before .before .before .before .before .before .before .before .before .before .before .before .before .before .before .args in
-    Ready (now (a .top-luma)) (a .top .luma) (now (a .bottom-luma)) (a .bottom .luma) (length (now (a .out-luma)))
-    × Ready (now (a .top-cb)) (a .top .cb) (now (a .bottom-cb)) (a .bottom .cb) (length (now (a .out-cb)))
-    × Ready (now (a .top-cr)) (a .top .cr) (now (a .bottom-cr)) (a .bottom .cr) (length (now (a .out-cr)))
+    let a = entry (c .before) .args in
+    PlaneWeavable (now (a .top-luma)) (a .top .luma) (now (a .bottom-luma)) (a .bottom .luma) (length (now (a .out-luma)))
+    × PlaneWeavable (now (a .top-cb)) (a .top .cb) (now (a .bottom-cb)) (a .bottom .cb) (length (now (a .out-cb)))
+    × PlaneWeavable (now (a .top-cr)) (a .top .cr) (now (a .bottom-cr)) (a .bottom .cr) (length (now (a .out-cr)))
 passed c =
-    let a = c .before .before .before .before .before .before .before .before .before .before .before .before .before .before .before .before .before .before .before .args in
+    let a = entry (c .before) .args in
     judged (givenOf (a .top) (now (a .top-luma)) (now (a .top-cb)) (now (a .top-cr)))
     (givenOf (a .bottom) (now (a .bottom-luma)) (now (a .bottom-cb)) (now (a .bottom-cr))) (length (now (a .out-luma))) (length (now (a .out-cb)))
     (length (now (a .out-cr))) (sym (number (c .before)) ∙ c .if1 .taken)
@@ -65,8 +71,17 @@ whole-field-requires-2 c κs = search needs
 room-for-requires : tie.Need-room-for-requires
 room-for-requires c κs = search needs
 
-lowest-of-requires : tie.Need-lowest-of-requires
-lowest-of-requires c κs = search needs
+test-requires : tie.Need-test-requires
+test-requires c κs = search needs
+
+test-requires-2 : tie.Need-test-requires-2
+test-requires-2 c κs = search needs
+
+test-requires-3 : tie.Need-test-requires-3
+test-requires-3 c κs = search needs
+
+test-requires-4 : tie.Need-test-requires-4
+test-requires-4 c κs = search needs
 
 weave-plane-requires : tie.Need-weave-plane-requires
 weave-plane-requires c κs = passed (c .before) .0
@@ -111,7 +126,10 @@ weave-spec =
     whole-field-requires
     whole-field-requires-2
     room-for-requires
-    lowest-of-requires
+    test-requires
+    test-requires-2
+    test-requires-3
+    test-requires-4
     weave-plane-requires
     weave-plane-requires-2
     weave-plane-requires-3

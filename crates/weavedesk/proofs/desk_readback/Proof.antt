@@ -1,12 +1,13 @@
--- `weavedesk::desk_readback` meets its contract: the answer is `readback::frame_of_readback`'s own, of numbers narrowed for it.
+-- The answer is `readback::frame_of_readback`'s own, of numbers narrowed for it.
 use borrow.Author.Needs.{needs}
 use mathlib.Core.Path.{_≡_, sym, _∙_}
 use lib.ListN.{length}
 use denote.Ref.{now}
 use Rattle.laws.specs.Rows.{over}
+use Rattle.laws.proofs.Refusal.{written-alike}
 use Rattle.readback.specs.Readback.{lumaShape, cbShape, crShape, crBytes, readbackNo, copiedOf}
 use Rattle.weavedesk.specs.Woven.{readbackNamed}
-use Rattle.weavedesk.proofs.Narrowed.{written-same, readback-number, readback-same}
+use Rattle.weavedesk.proofs.Narrowed.{readback-number, readback-same}
 use Rattle.weavedesk.proofs.desk_readback.Statement.{statement}
 use Rattle.weavedesk.proofs.desk_readback.Tie as tie
 
@@ -46,12 +47,12 @@ returns c =
       number,
       (
         k .frame-of-readback .ensures .1 .0
-            ∙ written-same r (now (a .out-luma)) (λ z. (λ i. over (copiedOf (now (a .luma)) (lumaShape (same z i))) (now (a .out-luma)))),
+            ∙ written-alike r (now (a .out-luma)) (λ z. (λ i. over (copiedOf (now (a .luma)) (lumaShape (same z i))) (now (a .out-luma)))),
         (
           k .frame-of-readback .ensures .1 .1 .0
-              ∙ written-same r (now (a .out-cb)) (λ z. (λ i. over (copiedOf (now (a .second)) (cbShape (same z i))) (now (a .out-cb)))),
+              ∙ written-alike r (now (a .out-cb)) (λ z. (λ i. over (copiedOf (now (a .second)) (cbShape (same z i))) (now (a .out-cb)))),
           k .frame-of-readback .ensures .1 .1 .1
-              ∙ written-same r (now (a .out-cr))
+              ∙ written-alike r (now (a .out-cr))
               (λ z. (λ i. over (copiedOf (crBytes (same z i) (now (a .second)) (now (a .third))) (crShape (same z i))) (now (a .out-cr)))),
         ),
       ),

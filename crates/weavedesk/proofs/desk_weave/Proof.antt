@@ -1,12 +1,13 @@
--- `weavedesk::desk_weave` meets its contract: the answer is `weave::weave`'s own, of numbers narrowed for it.
+-- The answer is `weave::weave`'s own, of numbers narrowed for it.
 use borrow.Author.Needs.{needs}
 use mathlib.Core.Path.{_≡_, sym, _∙_}
 use lib.ListN.{length}
 use denote.Ref.{now}
 use Rattle.laws.specs.Rows.{over}
+use Rattle.laws.proofs.Refusal.{written-alike}
 use Rattle.weave.specs.Weave.{givenOf, weaveNo, wovenPlane}
 use Rattle.weavedesk.specs.Woven.{fieldNamed}
-use Rattle.weavedesk.proofs.Narrowed.{written-same, weave-number, weave-same}
+use Rattle.weavedesk.proofs.Narrowed.{weave-number, weave-same}
 use Rattle.weavedesk.proofs.desk_weave.Statement.{statement}
 use Rattle.weavedesk.proofs.desk_weave.Tie as tie
 
@@ -51,14 +52,14 @@ returns c =
       number,
       (
         k .weave .ensures .1 .0
-            ∙ written-same r (now (a .out-luma))
+            ∙ written-alike r (now (a .out-luma))
             (λ z. (λ i. over (wovenPlane (now (a .top-luma)) (upper z i .luma) (now (a .bottom-luma)) (lower z i .luma)) (now (a .out-luma)))),
         (
           k .weave .ensures .1 .1 .0
-              ∙ written-same r (now (a .out-cb))
+              ∙ written-alike r (now (a .out-cb))
               (λ z. (λ i. over (wovenPlane (now (a .top-cb)) (upper z i .cb) (now (a .bottom-cb)) (lower z i .cb)) (now (a .out-cb)))),
           k .weave .ensures .1 .1 .1
-              ∙ written-same r (now (a .out-cr))
+              ∙ written-alike r (now (a .out-cr))
               (λ z. (λ i. over (wovenPlane (now (a .top-cr)) (upper z i .cr) (now (a .bottom-cr)) (lower z i .cr)) (now (a .out-cr)))),
         ),
       ),

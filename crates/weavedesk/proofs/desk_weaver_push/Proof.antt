@@ -1,17 +1,19 @@
--- `weavedesk::desk_weaver_push` meets its contract: codes, shapes and the state's length are tested here, and the rest is the weaver's own answer.
+-- Codes, shapes and the state's length are tested here, and the rest is the weaver's own answer.
 use mathlib.Core.Path.{_≡_, sym, ap, _∙_}
-use mathlib.Core.Bool.{_&&_}
+use mathlib.Core.Bool.{cond, _&&_}
 use lib.Dec.{leb}
 use lib.ListN.{length}
 use denote.Ref.{now}
 use mir.Syntax.{w64}
 use mir.Val.{SFits}
 use mir.ValLaws.{toZ-ofZ}
+use borrow.Author.Tests.{leb-true}
 use borrow.Author.Needs.{needs}
+use Rattle.laws.specs.Refusal.{lowest}
 use Rattle.weave.specs.Weave.{goodField, chromaFits}
 use Rattle.weavedesk.specs.Woven.{fieldNamed}
 use Rattle.weavedesk.specs.Push.{Lent, Offer, timeNamed, parityIn, timeIn, weaverOf}
-use Rattle.weavedesk.proofs.Push.{firstStep, state-room, first-same, field-same, Places, firstOf, Said, refused-first, renamed, refused-then, taken}
+use Rattle.weavedesk.proofs.Push.{first-each, first-same, field-same, Places, firstOf, Said, refused-first, renamed, refused-then, taken}
 use Rattle.weavedesk.proofs.desk_weaver_push.Statement.{statement}
 use Rattle.weavedesk.proofs.desk_weaver_push.Tie as tie
 
@@ -47,16 +49,21 @@ places c = let a = c .args in
 
 -- the first number, of the numbers as given
 first-number :
-    (c : tie.After-lowest-of) → let start = c .before .before .before .before .before .before .before .before .before .before .before .before in
-    c .lowest-of .result ≡ firstOf (offered start) (kept start) (places start)
+    (c : tie.After-test4) → let start = c .before .before .before .before .before .before .before .before .before .before .before .before .before .before .before in
+    c .test4 .result ≡ firstOf (offered start) (kept start) (places start)
+unfolding lowest
 first-number c =
-    let a = c .before .before .before .before .before .before .before .before .before .before .before .before .args in
+    let fits = c .before .before .before .before in
+    let a = fits .before .before .before .before .before .before .before .before .before .before .before .args in
     let named = leb (a .parity) 1 && leb (a .timed) 1 in
     let state = leb 56 (length (now (a .state))) in
-    let shape = c .before .before .before .field-cut .ensures in
-    let good = c .before .before .good-field .ensures ∙ ap goodField shape in
-    let halved = c .before .chroma-fits .ensures ∙ ap chromaFits shape in
-    c .lowest-of .ensures ∙ (λ i. firstStep named (good i) (halved i) state) ∙ first-same (a .shape) named state
+    let shape = fits .before .before .field-cut .ensures in
+    let good = fits .before .good-field .ensures ∙ ap goodField shape in
+    let halved = fits .chroma-fits .ensures ∙ ap chromaFits shape in
+    let six = c .before .before .before .test .ensures in
+    let five = c .before .before .test2 .ensures ∙ (λ i. cond (halved i) (six i) 5) in
+    let four = c .before .test3 .ensures ∙ (λ i. cond (good i) (five i) 4) in
+    c .test4 .ensures ∙ (λ i. cond named (four i) 3) ∙ first-same (a .shape) named state
 
 field-cut-requires : tie.Need-field-cut-requires
 field-cut-requires c κs = search needs
@@ -67,12 +74,21 @@ good-field-requires c κs = search needs
 chroma-fits-requires : tie.Need-chroma-fits-requires
 chroma-fits-requires c κs = search needs
 
-lowest-of-requires : tie.Need-lowest-of-requires
-lowest-of-requires c κs = search needs
+test-requires : tie.Need-test-requires
+test-requires c κs = search needs
+
+test-requires-2 : tie.Need-test-requires-2
+test-requires-2 c κs = search needs
+
+test-requires-3 : tie.Need-test-requires-3
+test-requires-3 c κs = search needs
+
+test-requires-4 : tie.Need-test-requires-4
+test-requires-4 c κs = search needs
 
 returns : tie.Need-returns
 returns c =
-    let start = c .before .before .before .before .before .before .before .before .before .before .before .before .before in
+    let start = c .before .before .before .before .before .before .before .before .before .before .before .before .before .before .before .before in
     refused-first (offered start) (kept start) (places start) (first-number (c .before)) (c .if1 .taken)
 
 weaver-in-requires : tie.Need-weaver-in-requires
@@ -107,15 +123,15 @@ same-length-5 c = search needs
 
 -- what the weaver says, by the names of the contract
 answered :
-    (k : tie.After-push) → let start = k .before .before .before .before .before .before .before .before .before .before .before .before .before .before .before .before .before .before .before .before .before .before in
+    (k : tie.After-push) → let start = k .before .before .before .before .before .before .before .before .before .before .before .before .before .before .before .before .before .before .before .before .before .before .before .before .before in
     firstOf (offered start) (kept start) (places start) ≡ 0 →
     Said (offered start) (kept start) (places start) (weaverOf (kept start)) (fieldNamed (start .args .shape)) (parityIn (offered start)) (timeIn (offered start)) (k .push .result .answer) (k .push .result .weaver)
     (k .push .last .1 .1 .1 .1 .1 .1 .1 .0) (k .push .last .1 .1 .1 .1 .1 .1 .1 .1 .0) (k .push .last .1 .1 .1 .1 .1 .1 .1 .1 .1 .0) (k .push .last .1 .1 .1 .1 .1 .1 .1 .1 .1 .1 .0)
 answered k passed =
-    let start = k .before .before .before .before .before .before .before .before .before .before .before .before .before .before .before .before .before .before .before .before .before .before in
+    let start = k .before .before .before .before .before .before .before .before .before .before .before .before .before .before .before .before .before .before .before .before .before .before .before .before .before in
     let a = start .args in
     renamed (offered start) (kept start) (places start) (k .push .result .answer) (k .push .result .weaver) _ _ _ _ (k .before .before .before .before .before .before .before .weaver-in .ensures)
-    (k .before .before .before .before .before .before .before .before .before .before .before .before .before .field-cut .ensures
+    (k .before .before .before .before .before .before .before .before .before .before .before .before .before .before .before .before .field-cut .ensures
     ∙ field-same (a .shape) (leb (a .parity) 1 && leb (a .timed) 1) (leb 56 (length (now (a .state)))) passed)
     (k .before .before .before .before .before .before .named .ensures) (k .before .before .before .before .before .time-named .ensures ∙ ap (timeNamed (a .timed)) (toZ-ofZ w64 (a .time) (start .fits .time)))
     (k .push .ensures)
@@ -124,7 +140,7 @@ returns-2 : tie.Need-returns-2
 returns-2 c =
     let k = c .before .before .before .before .before .before .before .before .before .before .before in
     let judged = k .before .before .before .before .before .before .before .before .before .before in
-    let start = judged .before .before .before .before .before .before .before .before .before .before .before .before in
+    let start = judged .before .before .before .before .before .before .before .before .before .before .before .before .before .before .before in
     let passed = sym (first-number judged) ∙ k .before .before .before .before .before .before .before .before .before .if1 .left in
     refused-then (offered start) (kept start) (places start) passed (k .push .result .answer) (k .push .result .weaver) _ _ _ _ (answered k passed) (c .before .number-in .ensures) (c .if2 .taken)
 
@@ -132,9 +148,11 @@ keep-requires : tie.Need-keep-requires
 keep-requires c κs =
     let k = c .before .before .before .before .before .before .before .before .before .before .before .before in
     let judged = k .before .before .before .before .before .before .before .before .before .before in
-    let a = judged .before .before .before .before .before .before .before .before .before .before .before .before .args in
-    state-room (leb (a .parity) 1 && leb (a .timed) 1) (judged .before .before .good-field .result) (judged .before .chroma-fits .result) (length (now (a .state)))
-    (sym (judged .lowest-of .ensures) ∙ k .before .before .before .before .before .before .before .before .before .if1 .left)
+    let a = judged .before .before .before .before .before .before .before .before .before .before .before .before .before .before .before .args in
+    let field = fieldNamed (a .shape) in
+    leb-true 56 (length (now (a .state)))
+    (first-each (leb (a .parity) 1 && leb (a .timed) 1) (goodField field) (chromaFits field) (leb 56 (length (now (a .state))))
+    (sym (first-number judged) ∙ k .before .before .before .before .before .before .before .before .before .if1 .left) .1 .1 .1 .0)
 
 earlier-in-requires : tie.Need-earlier-in-requires
 earlier-in-requires c κs = search needs
@@ -170,7 +188,7 @@ returns-3 c =
     let tested = wrote .before .before in
     let k = c .before .before .before .before .before .before .before .before .before .before .before .before .before .before .before .before .before .before .before in
     let judged = k .before .before .before .before .before .before .before .before .before .before in
-    let start = judged .before .before .before .before .before .before .before .before .before .before .before .before in
+    let start = judged .before .before .before .before .before .before .before .before .before .before .before .before .before .before .before in
     let passed = sym (first-number judged) ∙ k .before .before .before .before .before .before .before .before .before .if1 .left in
     taken (offered start) (kept start) (places start) passed (k .push .result .answer) (k .push .result .weaver) _ _ _ _ (answered k passed)
     (tested .before .number-in .ensures) (tested .if2 .left) _ _ _ _ (c .before .before .before .earlier-in .result) (wrote .keep .ensures)
@@ -184,7 +202,10 @@ desk-weaver-push-spec =
     field-cut-requires
     good-field-requires
     chroma-fits-requires
-    lowest-of-requires
+    test-requires
+    test-requires-2
+    test-requires-3
+    test-requires-4
     returns
     weaver-in-requires
     named-requires

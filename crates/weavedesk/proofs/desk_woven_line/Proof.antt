@@ -13,11 +13,11 @@ returns c =
     let a = number .before .before .before .before .args in
     line-refused (now (a .top)) (a .top-lines) (now (a .bottom)) (a .bottom-lines) (a .y) (now (a .out)) (number .line-number .ensures) (c .if1 .taken)
 
-lines-cut-requires : tie.Need-lines-cut-requires
-lines-cut-requires c κs = search needs
+grid-named-requires : tie.Need-grid-named-requires
+grid-named-requires c κs = search needs
 
-lines-cut-requires-2 : tie.Need-lines-cut-requires-2
-lines-cut-requires-2 c κs = search needs
+grid-named-requires-2 : tie.Need-grid-named-requires-2
+grid-named-requires-2 c κs = search needs
 
 woven-line-requires : tie.Need-woven-line-requires
 woven-line-requires c κs = search needs
@@ -29,10 +29,10 @@ returns-2 c =
     let number = test .before in
     let a = number .before .before .before .before .args in
     line-too-long (now (a .top)) (a .top-lines) (now (a .bottom)) (a .bottom-lines) (a .y) (now (a .out)) (number .line-number .ensures) (test .if1 .left)
-    (line .before .before .lines-cut .ensures) (line .before .lines-cut2 .ensures) (line .woven-line .ensures .0) (c .if2 .taken)
+    (line .before .before .grid-named .ensures) (line .before .grid-named2 .ensures) (line .woven-line .ensures .0) (c .if2 .taken)
 
-copy-requires : tie.Need-copy-requires
-copy-requires c κs = search needs
+copy-front-requires : tie.Need-copy-front-requires
+copy-front-requires c κs = search needs
 
 same-length : tie.Need-same-length
 same-length c = search needs
@@ -46,7 +46,7 @@ returns-3 c =
     let number = test .before in
     let a = number .before .before .before .before .args in
     line-copied (now (a .top)) (a .top-lines) (now (a .bottom)) (a .bottom-lines) (a .y) (now (a .out)) (number .line-number .ensures) (test .if1 .left)
-    (line .before .before .lines-cut .ensures) (line .before .lines-cut2 .ensures) (line .woven-line .ensures .0) (room .if2 .left) (copied .copy .ensures)
+    (line .before .before .grid-named .ensures) (line .before .grid-named2 .ensures) (line .woven-line .ensures .0) (room .if2 .left) (copied .copy-front .ensures)
 
 pub desk-woven-line-spec : {M : Type 1} → statement M
 desk-woven-line-spec =
@@ -54,10 +54,10 @@ desk-woven-line-spec =
     (tie.spec
     line-number-requires
     returns
-    lines-cut-requires
-    lines-cut-requires-2
+    grid-named-requires
+    grid-named-requires-2
     woven-line-requires
     returns-2
-    copy-requires
+    copy-front-requires
     same-length
     returns-3)

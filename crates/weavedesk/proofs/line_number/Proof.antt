@@ -1,4 +1,4 @@
--- `weavedesk::line_number` meets its contract: a line is outside by the height as given, and the other numbers are those of line 0.
+-- A line is outside by the height as given, and the other numbers are those of line 0.
 use mathlib.Core.Path.{refl, _∙_}
 use borrow.Author.Needs.{needs}
 use borrow.Author.Tests.{le-ltb}
@@ -18,11 +18,11 @@ returns : tie.Need-returns
 unfolding lowest
 returns c = simp (le-ltb _ _ (c .if1 .taken)) refl
 
-lines-cut-requires : tie.Need-lines-cut-requires
-lines-cut-requires c κs = search needs
+grid-named-requires : tie.Need-grid-named-requires
+grid-named-requires c κs = search needs
 
-lines-cut-requires-2 : tie.Need-lines-cut-requires-2
-lines-cut-requires-2 c κs = search needs
+grid-named-requires-2 : tie.Need-grid-named-requires-2
+grid-named-requires-2 c κs = search needs
 
 line-no-requires : tie.Need-line-no-requires
 line-no-requires c κs = search needs
@@ -31,8 +31,8 @@ returns-2 : tie.Need-returns-2
 returns-2 c =
     let tested = c .before .before .before in
     let a = tested .before .before .args in
-    let top = c .before .before .lines-cut .ensures in
-    let bottom = c .before .lines-cut2 .ensures in
+    let top = c .before .before .grid-named .ensures in
+    let bottom = c .before .grid-named2 .ensures in
     c .line-no .ensures ∙ (λ i. lineNo (top i) (a .top-bytes) (bottom i) (a .bottom-bytes) 0)
     ∙ narrowed.line-number (a .top) (a .top-bytes) (a .bottom) (a .bottom-bytes) (a .y) (tested .if1 .left)
 
@@ -43,7 +43,7 @@ line-number-spec =
     cast-if1
     mul-if1
     returns
-    lines-cut-requires
-    lines-cut-requires-2
+    grid-named-requires
+    grid-named-requires-2
     line-no-requires
     returns-2)

@@ -52,7 +52,7 @@ pack-part-requires-2 : tie.Need-pack-part-requires-2
 pack-part-requires-2 c κs =
     let first = c .before .before .before in
     let p = planes (first .before .before) in
-    (search (p .2, p .3), omega (arith, p .4, first .pack-part .kept .0))
+    (p .2, omega (arith, p .4, first .pack-part .kept .0))
 
 add-pack-part : tie.Need-add-pack-part
 add-pack-part c = omega (arith, planes (c .before .before .before .before .before .before .before .before .before) .4)
@@ -62,7 +62,7 @@ pack-part-requires-3 c κs =
     let second = c .before .before .before in
     let first = second .before .before .before .before in
     let p = planes (first .before .before) in
-    (search (p .2, p .3), omega (arith, p .4, first .pack-part .kept .0, second .pack-part2 .kept .0))
+    (p .3, omega (arith, p .4, first .pack-part .kept .0, second .pack-part2 .kept .0))
 
 same-length : tie.Need-same-length
 same-length c = search needs

@@ -18,18 +18,27 @@ kept-bytes-requires c κs = search needs
 room-after-requires : tie.Need-room-after-requires
 room-after-requires c κs = search needs
 
-lowest-of-requires : tie.Need-lowest-of-requires
-lowest-of-requires c κs = search needs
+test-requires : tie.Need-test-requires
+test-requires c κs = search needs
+
+test-requires-2 : tie.Need-test-requires-2
+test-requires-2 c κs = search needs
+
+test-requires-3 : tie.Need-test-requires-3
+test-requires-3 c κs = search needs
+
+test-requires-4 : tie.Need-test-requires-4
+test-requires-4 c κs = search needs
 
 returns : tie.Need-returns
 unfolding lowest
 returns c =
-    let room = c .before in
+    let room = c .before .before .before .before in
     let held = room .before in
     let long = held .before in
     let halved = long .before in
     let good = halved .before in
-    simp (c .lowest-of .ensures, room .room-after .ensures, held .kept-bytes .ensures, long .whole-field .ensures, halved .chroma-fits .ensures, good .good-field .ensures)
+    simp (c .test4 .ensures, c .before .test3 .ensures, c .before .before .test2 .ensures, c .before .before .before .test .ensures, room .room-after .ensures, held .kept-bytes .ensures, long .whole-field .ensures, halved .chroma-fits .ensures, good .good-field .ensures)
 
 pub push-no-spec : {M : Type 1} → statement M
 push-no-spec =
@@ -40,5 +49,8 @@ push-no-spec =
     whole-field-requires
     kept-bytes-requires
     room-after-requires
-    lowest-of-requires
+    test-requires
+    test-requires-2
+    test-requires-3
+    test-requires-4
     returns)

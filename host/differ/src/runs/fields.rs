@@ -3,26 +3,17 @@
 use std::hint::black_box;
 use std::rc::Rc;
 
-use desk::calls::{FieldNumbers, LinesNumbers, PlaneNumbers};
+use desk::calls::{FieldNumbers, PlaneNumbers};
 use oracle::mediadecoder::es::Format;
 use oracle::mediadecoder::video::Frame;
 
+use super::film::{grid_of, listed};
 use crate::answers::Answer;
 use crate::case::{Difference, same, smaller_numbers};
 use crate::given::{Contents, EDGES_OF_WIDTH, Given, edge_of};
 use crate::judge::weaves::half;
 use crate::judge::{self, Lent};
 use crate::random::Random;
-
-/// The lines of a plane by number.
-pub fn lines(shape: PlaneNumbers) -> LinesNumbers {
-    LinesNumbers {
-        width: shape.width,
-        height: shape.height,
-        depth: shape.depth,
-        stride: shape.stride,
-    }
-}
 
 /// The planes of a field: luma, cb, cr.
 #[derive(Debug, Clone)]
@@ -34,7 +25,7 @@ impl Field {
     }
 
     pub fn numbers(&self) -> FieldNumbers {
-        let [luma, cb, cr] = self.0.each_ref().map(|given| lines(given.shape));
+        let [luma, cb, cr] = self.0.each_ref().map(|given| grid_of(given.shape));
         FieldNumbers { luma, cb, cr }
     }
 
@@ -233,17 +224,6 @@ pub fn affordable(random: &mut Random, needed: u64, more: u64) -> usize {
         return random.between(0, 256) as usize;
     }
     (needed + more) as usize
-}
-
-/// The numbers of a plane's lines in their order.
-pub fn listed(shape: PlaneNumbers) -> [u32; 4] {
-    let LinesNumbers {
-        width,
-        height,
-        depth,
-        stride,
-    } = lines(shape);
-    [width, height, depth, stride]
 }
 
 impl Field {

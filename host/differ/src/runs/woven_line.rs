@@ -9,7 +9,8 @@ use std::rc::Rc;
 use oracle::mediadecoder::es::Format;
 use oracle::mediadecoder::video::{Frame, Plane};
 
-use super::fields::{self, lines};
+use super::fields;
+use super::film::{grid_of, listed};
 use super::weave;
 use crate::answers::Answer;
 use crate::case::{Case, Difference, Failure, Least, Tally, same, smaller_numbers};
@@ -99,7 +100,7 @@ impl Case for Line {
         let Planes { top, bottom, .. } = &**planes;
         let twin = judge::weaves::line(top.shape, bottom.shape, said, y);
         let [top_bytes, bottom_bytes] = said;
-        let (top_lines, bottom_lines) = (lines(top.shape), lines(bottom.shape));
+        let (top_lines, bottom_lines) = (grid_of(top.shape), grid_of(bottom.shape));
         let given = desk::calls::line_number(top_lines, top_bytes, bottom_lines, bottom_bytes, y);
         same("the twin's number, which is the rules'", given, twin)?;
 
@@ -272,8 +273,8 @@ pub(crate) fn answers(random: Random) -> impl Iterator<Item = Answer> {
             &[]
         };
         Answer::of("woven_line")
-            .numbers(fields::listed(top.shape))
-            .numbers(fields::listed(bottom.shape))
+            .numbers(listed(top.shape))
+            .numbers(listed(bottom.shape))
             .number(line.y)
             .gives(number)
             .slice(&top.plane().data)
@@ -290,9 +291,9 @@ pub(crate) fn numbers(random: Random) -> impl Iterator<Item = Answer> {
         let [top_bytes, bottom_bytes] = line.said;
         let number = judge::weaves::line(top.shape, bottom.shape, line.said, line.y);
         Answer::of("line_number")
-            .numbers(fields::listed(top.shape))
+            .numbers(listed(top.shape))
             .number(top_bytes)
-            .numbers(fields::listed(bottom.shape))
+            .numbers(listed(bottom.shape))
             .number(bottom_bytes)
             .number(line.y)
             .gives(number)

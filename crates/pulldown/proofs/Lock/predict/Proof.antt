@@ -20,7 +20,7 @@ foretell-requires c κs = search needs
 returns-2 : tie.Need-returns-2
 unfolding lowest
 returns-2 c =
-    let near = le-leb _ _ (c .before .before .if1 .left) in
+    let near = le-leb _ _ (c .before .before .before .if1 .left) in
     (simp near, simp (near, c .foretell .ensures, c .before .smaller .ensures))
 
 pub predict-spec : {M : Type 1} → statement M

@@ -51,7 +51,7 @@ returns-2 c =
     let e = pushed .push-measured .ensures in
     let p = pushed .push-measured .result in
     let told = sym (judged .good2 .ensures) ∙ good .if2 .taken in
-    c .pushed .ensures ∙ entry-leads (a .self) (a .n) (a .unit .now) (read .entry-of .result) (led .first .result) (numbers .measured .result) p (long .if1 .left) (read .entry-of .ensures) told (led .first .ensures) (numbers .measured .ensures) (e .0) (e .1) (e .2)
+    c .pushed .ensures ∙ entry-leads (a .self) (a .n) (a .unit .now) (read .entry-of .result) (led .first .result) (numbers .measured .result) p (long .if1 .left) (read .entry-of .ensures) told (led .first .ensures) (numbers .measured .ensures) (e .0) (e .1 .0) (e .1 .1)
 
 close-requires-2 : tie.Need-close-requires-2
 close-requires-2 c κs = search needs

@@ -40,8 +40,8 @@ returns-2 c =
     let a = size .before .before .before .before .args in
     let e = pushed .push .ensures in
     let whole = rw (size .picture-bytes .ensures) at (long .if1 .left) in (
-      c .pushed .ensures ∙ picture-leads (a .self) (a .n) (a .store .now) (a .unit .now) (pushed .push .result) whole (e .0) (e .1) (e .2),
-      simp (← size .picture-bytes .ensures, le-leb _ _ (long .if1 .left)) (e .3),
+      c .pushed .ensures ∙ picture-leads (a .self) (a .n) (a .store .now) (a .unit .now) (pushed .push .result) whole (e .0) (e .1 .0) (e .1 .1 .0),
+      simp (← size .picture-bytes .ensures, le-leb _ _ (long .if1 .left)) (e .1 .1 .1),
     )
 
 pub picture-unit-spec : {M : Type 1} → statement M

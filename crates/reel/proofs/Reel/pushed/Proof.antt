@@ -22,7 +22,7 @@ returns : tie.Need-returns
 unfolding pushedAs
 returns c =
     let added = c .before in
-    let known = added .before .before .before .before .before .before .before in
+    let known = added .before .before .before .before .before .before .before .before in
     simp (added .add .ensures, c .locked .ensures, known .answer .given .1)
 
 returns-2 : tie.Need-returns-2

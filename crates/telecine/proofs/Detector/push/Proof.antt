@@ -1,6 +1,5 @@
-use lib.ListN.{length}
 use Rattle.plane.specs.Plane.{gridShape}
-use Rattle.telecine.proofs.Calls.{count-done, picture-refused, picture-gave, picture-full}
+use Rattle.telecine.proofs.Calls.{count-done, picture-refused, picture-left}
 use borrow.Author.Needs.{needs}
 use Rattle.telecine.proofs.Detector.push.Statement.{statement}
 use Rattle.telecine.proofs.Detector.push.Tie as tie
@@ -11,27 +10,21 @@ picture-no-requires c κs = search needs
 returns : tie.Need-returns
 returns c =
     let judged = c .before in
-    let a = judged .before .before .before .before .args in
+    let a = judged .before .before .before .args in
     picture-refused (a .self) (a .store .now) (a .plane .now) (gridShape (a .grid)) (a .first) (judged .picture-no .ensures) (c .if1 .taken)
 
 seen-picture-requires : tie.Need-seen-picture-requires
 seen-picture-requires c κs =
-    let passed = c .before in
+    let passed = c .before .before in
     let judged = passed .before in
-    let a = judged .before .before .before .before .args in
-    count-done (a .self .kept) (gridShape (a .grid)) (length (a .plane .now)) (length (a .store .now)) (judged .picture-no .ensures) (passed .if1 .left)
+    let a = judged .before .before .before .args in
+    count-done (a .self) (a .store .now) (a .plane .now) (gridShape (a .grid)) (a .first) (judged .picture-no .ensures) (passed .if1 .left)
 
-push-requires : tie.Need-push-requires
-push-requires c κs = search needs
-
-enum-known-answer : tie.Need-enum-known-answer
-enum-known-answer c = search needs
+step-requires : tie.Need-step-requires
+step-requires c κs = search needs
 
 keep-requires : tie.Need-keep-requires
 keep-requires c κs = search needs
-
-enum-known-answer-2 : tie.Need-enum-known-answer-2
-enum-known-answer-2 c = search needs
 
 same-length : tie.Need-same-length
 same-length c = search needs
@@ -39,30 +32,14 @@ same-length c = search needs
 returns-2 : tie.Need-returns-2
 returns-2 c =
     let kept = c .before .before in
-    let known = kept .before .before .before in
-    let pushed = known .before .before .before in
-    let looked = pushed .before .before in
-    let passed = looked .before .before in
+    let step = kept .before .before .before in
+    let looked = step .before .before .before .before .before in
+    let passed = looked .before .before .before in
     let judged = passed .before in
-    let a = judged .before .before .before .before .args in
-    let e = pushed .push .ensures in
-    picture-gave (a .self) (a .store .now) (a .plane .now) (gridShape (a .grid)) (a .first) (judged .picture-no .ensures) (passed .if1 .left) (looked .seen-picture .ensures)
-    (record { lock-is = e .0; number-is = e .1; values-are = e .2 }) (known .answer .given .1) (kept .keep .ensures .1)
-
-same-length-2 : tie.Need-same-length-2
-same-length-2 c = search needs
-
-returns-3 : tie.Need-returns-3
-returns-3 c =
-    let known = c .before in
-    let pushed = known .before .before .before in
-    let looked = pushed .before .before in
-    let passed = looked .before .before in
-    let judged = passed .before in
-    let a = judged .before .before .before .before .args in
-    let e = pushed .push .ensures in
-    picture-full (a .self) (a .store .now) (a .plane .now) (gridShape (a .grid)) (a .first) (judged .picture-no .ensures) (passed .if1 .left) (looked .seen-picture .ensures)
-    (record { lock-is = e .0; number-is = e .1; values-are = e .2 }) (known .answer2 .given .1)
+    let a = judged .before .before .before .args in
+    let e = step .step .ensures in
+    picture-left (a .self) (a .store .now) (a .plane .now) (gridShape (a .grid)) (a .first) (judged .picture-no .ensures) (passed .if1 .left)
+    (looked .seen-picture .ensures) (e .0) (e .1 .0) (e .1 .1 .0) (e .1 .1 .1) (kept .keep .ensures .0) (kept .keep .ensures .1)
 
 pub push-spec : {M : Type 1} → statement M
 push-spec =
@@ -71,11 +48,7 @@ push-spec =
     picture-no-requires
     returns
     seen-picture-requires
-    push-requires
-    enum-known-answer
+    step-requires
     keep-requires
-    enum-known-answer-2
     same-length
-    returns-2
-    same-length-2
-    returns-3)
+    returns-2)

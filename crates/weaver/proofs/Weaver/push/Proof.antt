@@ -5,7 +5,8 @@ use denote.Ref.{now}
 use borrow.Author.Needs.{needs}
 use Rattle.laws.specs.Refusal.{lowest}
 use Rattle.weave.specs.Weave.{Given, givenOf}
-use Rattle.weaver.proofs.Judged.{testsOf, Passed, passed, packable, store-holds, weavable}
+use Rattle.weaver.proofs.Judged.{Passed, passed, packable, store-holds, weavable}
+use Rattle.weaver.proofs.Judged as judged-by
 use Rattle.weaver.proofs.Calls.{refused, pictured, waiting}
 use Rattle.weaver.proofs.Weaver.push.Statement.{statement}
 use Rattle.weaver.proofs.Weaver.push.Tie as tie
@@ -41,7 +42,7 @@ tests c picture e =
     let s = start judged in
     let a = s .args in
     passed (a .self) (given s) picture (length (now (a .store))) (length (now (a .out-luma))) (length (now (a .out-cb))) (length (now (a .out-cr)))
-    (ap (λ (b : Bool). lowest (testsOf (a .self) (given s) b (length (now (a .store))) (length (now (a .out-luma))) (length (now (a .out-cb))) (length (now (a .out-cr))))) (sym e)
+    (ap (λ (b : Bool). lowest (judged-by.tests (a .self) (given s) b (length (now (a .store))) (length (now (a .out-luma))) (length (now (a .out-cb))) (length (now (a .out-cr))))) (sym e)
     ∙ sym (judged .push-no .ensures) ∙ c .if1 .left)
 
 weave-kept-requires : tie.Need-weave-kept-requires
