@@ -215,13 +215,21 @@ fn trio(
 
 // Where the rows start.
 const ABOVE: usize = 0;
+
 const BELOW: usize = 524;
+
 const EARLIER_UP: usize = 1048;
+
 const EARLIER_DOWN: usize = 1572;
+
 const EARLIER: usize = 2096;
+
 const LATER_UP: usize = 2620;
+
 const LATER_DOWN: usize = 3144;
+
 const LATER: usize = 3668;
+
 const FAR_ABOVE: usize = 4192;
 
 // What Motion looks at, of all three planes.
@@ -356,14 +364,7 @@ fn in_motion(rows: &[f32], x: usize, along: f32) -> f32
 
 // ---- a tile of a line
 
-fn bob(
-    out: &mut [f32],
-    rows: &mut [f32],
-    src: &[u8],
-    s: plane::Shape,
-    y: usize,
-    from: usize,
-)
+fn bob(out: &mut [f32], rows: &mut [f32], src: &[u8], s: plane::Shape, y: usize, from: usize)
     requires { ⌜ Lent s (length (now src)) ⌝ }
     requires { ⌜ Tiled s y from (length (now out)) × (length (now rows) ≡ 5240) ⌝ }
     ensures { λ _. ⌜ now (out .exit) ≡ listed (length (now (out .entry))) (λ x. bobOf (valueOf (now (src .entry)) s) (pos (from + x)) (pos y)) ⌝ }
@@ -497,7 +498,16 @@ fn line(
     let mut x = 0;
     while x < out.len() {
         let to = shorter(x + 512, out.len());
-        tile(&mut out[x..to], rows, making, before, cur, after, y, left + x);
+        tile(
+            &mut out[x..to],
+            rows,
+            making,
+            before,
+            cur,
+            after,
+            y,
+            left + x,
+        );
         x = to;
     }
 }
@@ -593,13 +603,7 @@ pub fn part(
 }
 
 // The samples of every row.
-pub fn plane(
-    out: &mut [f32],
-    making: filter::Making,
-    before: &[u8],
-    cur: &[u8],
-    after: &[u8],
-) -> u8
+pub fn plane(out: &mut [f32], making: filter::Making, before: &[u8], cur: &[u8], after: &[u8]) -> u8
     ensures { λ r. ⌜ r ≡ planeNo making (length (now (before .entry))) (length (now (cur .entry))) (length (now (after .entry))) (length (now (out .entry))) ⌝ }
     ensures { λ r. ⌜ now (out .exit) ≡ written r (over (planeMade making (now (before .entry)) (now (cur .entry)) (now (after .entry))) (now (out .entry))) (now (out .entry)) ⌝ }
 {

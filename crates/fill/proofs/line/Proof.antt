@@ -66,12 +66,15 @@ tile-requires c κs =
     let same = l .loop .inv .0 .long in
     let long : length (take (to - x) (drop x (l .loop .out))) ≡ to - x = part-length (l .loop .out) x (to - x) (omega (arith, s)) in (
       z .pre .0,
-      (record {
-        row = z .pre .1 .0;
-        some = omega (arith, long, s);
-        few = omega (arith, long, s);
-        within = omega (arith, long, s, same, z .pre .1 .1);
-      }, l .loop .inv .1),
+      (
+        record {
+          row = z .pre .1 .0;
+          some = omega (arith, long, s);
+          few = omega (arith, long, s);
+          within = omega (arith, long, s, same, z .pre .1 .1);
+        },
+        l .loop .inv .1,
+      ),
     )
 
 loop-less : tie.Need-loop-less Inv-loop μ-loop
@@ -82,9 +85,11 @@ loop-again c =
     let s = step (c .before .before .before .before .before .before .before) in
     let l = c .before .before .before .before .before .before .before .before .before in
     let a = l .before .before .before .before .before .before .args in
-    let e = c .before .before .before .before .tile .ensures in
-    (tile-more (λ x. sampleIn (a .making) (now (a .before)) (now (a .cur)) (now (a .after)) (pos x) (pos (a .y))) (a .left) (l .loop .x) _ (l .loop .inv .0)
-      (omega (arith, s)) (omega (arith, s, l .loop .inv .0 .long)) (e .0), e .1)
+    let e = c .before .before .before .before .tile .ensures in (
+      tile-more (λ x. sampleIn (a .making) (now (a .before)) (now (a .cur)) (now (a .after)) (pos x) (pos (a .y))) (a .left) (l .loop .x) _ (l .loop .inv .0)
+          (omega (arith, s)) (omega (arith, s, l .loop .inv .0 .long)) (e .0),
+      e .1,
+    )
 
 same-length : tie.Need-same-length Inv-loop μ-loop
 same-length c = c .before .loop .inv .0 .long

@@ -31,9 +31,10 @@ asks :
     ((a .from + length (now (a .dst)) ≤ 8192) × (step ≤ 4) × (slide ≤ 7))
     × ((x : ℕ) → x < length (now (a .dst)) → at + step * (a .from + x) + sampleBytes depth ≤ length (now (a .src)))
 asks y w few small =
-    let z = entry y in
-    ((omega (arith, z .pre .1 .1, z .pre .0 .width-most), few, small),
-      λ x l. walk-within (now (z .args .src)) (z .pre .0) (z .pre .1 .0) w (z .args .from + x) (omega (arith, z .pre .1 .1)))
+    let z = entry y in (
+      (omega (arith, z .pre .1 .1, z .pre .0 .width-most), few, small),
+      λ x l. walk-within (now (z .args .src)) (z .pre .0) (z .pre .1 .0) w (z .args .from + x) (omega (arith, z .pre .1 .1)),
+    )
 
 gives :
     (y : tie.After-components-of) {at step depth slide : ℕ} {row : List Float} →
