@@ -4,13 +4,12 @@ use native.Mathlib.Omega.{arith}
 use mathlib.Core.Path.{_≡_, refl, sym, ap, _∙_}
 use mathlib.Core.Bool.{Bool, true, false, cond}
 use mathlib.Core.List.{List, [], _∷_, _++_, append-assoc}
-use lib.Dec.{ltb, eqb}
-use lib.ListN.{length, getD, length-append}
+use lib.Dec.{ltb}
+use lib.ListN.{length, length-append}
 use lib.Seq.{getD-append-add}
-use borrow.Author.Tests.{lt-ltb, le-ltb, ltb-true, ltb-false, ne-eqb}
+use borrow.Author.Tests.{lt-ltb, le-ltb, ne-eqb}
 use Rattle.field.specs.declared.Cadence.{Cadence}
 use Rattle.field.specs.declared.Cadence.the-variants.{None, Whole, Drop, Spanning}
-use Rattle.reel.specs.declared.Tally.{Tally}
 use Rattle.listing.specs.Listing.{decimalIn, decimalOf, noneWord, wholeFirst, dropWord, spanningWord, refusedFirst, lineEnd, cadenceWord, lockEnd}
 use Rattle.cadence.specs.Told.{fromEnd, refusalIn}
 use Rattle.cadence.specs.Claims.{TellsWhatWasSaid}

@@ -5,7 +5,7 @@ use mathlib.Core.List.{List}
 use lib.Dec.{ltb, eqb}
 use lib.ListN.{length, getD}
 
--- the byte that stands so many before a text's end
+-- the byte that stands k places before a text's end
 abbrev pub fromEnd : ℕ → List ℕ → ℕ
 fromEnd k text = getD text (length text - k) 0
 

@@ -18,13 +18,6 @@ struct Turn {
     on: bool,
 }
 
-// The smaller of two.
-fn least(a: usize, b: usize) -> usize
-    ensures { λ r. ⌜ (r ≡ min a b) × (r ≤ b) ⌝ }
-{
-    if a < b { a } else { b }
-}
-
 // On standard error. Where that fails too, nobody is left to be told.
 fn tell(text: &[u8]) {
     io::write_all(2, text);
@@ -36,7 +29,7 @@ fn read(buffer: &mut [u8], from: usize) -> usize
     ensures { λ r. ⌜ r ≤ length (now (buffer .entry)) - from ⌝ }
     ensures { λ _. ⌜ take (min from (length (now (buffer .entry)))) (now (buffer .exit)) ≡ take (min from (length (now (buffer .entry)))) (now (buffer .entry)) ⌝ }
 {
-    let start = least(from, buffer.len());
+    let start = pages::least(from, buffer.len());
     let part = &mut buffer[start..];
     let got = libc::read(0, part);
     if got < 0 {
@@ -51,7 +44,7 @@ fn read(buffer: &mut [u8], from: usize) -> usize
 fn front<'a>(page: &'a [u8], n: usize) -> &'a [u8]
     ensures { λ r. ⌜ now r ≡ take n (now (page .entry)) ⌝ }
 {
-    let end = least(n, page.len());
+    let end = pages::least(n, page.len());
     &page[0..end]
 }
 

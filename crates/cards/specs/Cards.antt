@@ -1,6 +1,7 @@
 -- The bench cards of docs/RULES.md that are marked P, in its order: one table, `cards`, under one statement, `CardsHold`, which
 -- proofs/Cards.antt proves. A card holds a number that the definitions of the crates give and the number that docs/RULES.md says. A test
--- counts as 1 where it holds and 0 where it does not; symbols and cadences have their numbers. Lists of frames are newest first.
+-- counts as 1 where it holds and 0 where it does not; symbols and cadences have their numbers. Lists of frames are newest first. Of the cards
+-- without a P those of `quantise` are proved too, in crate `colour` (`QuantiseCards`); the others are only run.
 use Prim.Native.Nat.{ℕ, zero, suc, _+_, _*_, _%_}
 use mathlib.Core.Path.{_≡_}
 use mathlib.Core.Bool.{Bool, cond}
@@ -40,7 +41,7 @@ blank x r = 0
 abbrev pub busyWith : ℕ → ℕ
 busyWith n = oneIf (busy (begun n) blank 16 8 0 0)
 
--- the symbol of counts of the two fields, with so many blocks in each
+-- the symbol of counts of the two fields, which have this many blocks each
 abbrev pub symbolWith : ℕ → ℕ → ℕ → ℕ
 symbolWith blocks first second = symbolNumber (symbolOf first blocks second)
 
@@ -63,8 +64,8 @@ clean step (suc n) = seen.Symbol (expectedAt ((step + n) % 5)) ∷ clean step n
 abbrev pub locksFrom : ℕ → ℕ
 locksFrom step = firstOf (λ n. lockedOf (lockOf (clean step n))) 15
 
--- The example of "Reel file and listing" up to entry 9, as calls of the detector. Entry 0 is absent; of the others' 1350 blocks so many
--- are busy in their fields.
+-- The example of "Reel file and listing" up to entry 9, as calls of the detector. Entry 0 is absent; the fields of the others have 1350 blocks
+-- each, of which `first` are busy in the leading field and `second` in the trailing.
 abbrev pub measuredBusy : ℕ → ℕ → Measured
 measuredBusy first second = Counts (record { busy = first; total = 1350 }) (record { busy = second; total = 1350 })
 
@@ -82,7 +83,7 @@ toEntry9 =
 unfoldable pub detectorAfter : List Call → Detector
 detectorAfter calls = after [] calls .detector
 
--- what is foretold so many ahead after entry 9
+-- what is foretold of the frame that comes `ahead` others after entry 9
 abbrev pub aheadOf : ℕ → ℕ
 aheadOf ahead = cadenceNumber (predictCadence (detectorAfter toEntry9 .lock) ahead)
 

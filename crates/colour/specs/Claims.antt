@@ -37,6 +37,6 @@ ConvertedInUnit = (c : Conversion) (y cb cr : Float) → goodConversion c ≡ tr
 abbrev pub QuantiseNan : Type 0
 QuantiseNan = quantiseOf nan ≡ 0
 
--- Two of the bench cards: 0.5 gives 128, 1.0 gives 255.
+-- The two bench cards of `quantise`, which are not in the table of crate `cards`: 0.5 gives 128, 1.0 gives 255.
 abbrev pub QuantiseCards : Type 0
 QuantiseCards = (quantiseOf (ofBits binary32 0x3f00_0000) ≡ 128) × (quantiseOf oneF ≡ 255)

@@ -33,7 +33,7 @@ sample-says quality rows before cur after before-bytes cur-bytes after-bytes x y
 
 pub plane-says : PlaneSays
 unfolding rising
-plane-says quality first before before-bytes cur cur-bytes after after-bytes room = lowest-says _ tt
+plane-says quality first before cur after before-bytes cur-bytes after-bytes room = lowest-says _ tt
 
 pub to-rgb-says : ToRgbSays
 unfolding rising

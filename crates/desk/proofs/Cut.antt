@@ -73,17 +73,16 @@ module _ (m : Making) where
 
   module _ (named : Bool) (before cur after room : ℕ) where
     abbrev planeNo : Making → ℕ
-    planeNo making = lowest ((3, named) ∷ planeTests (making .before) before (making .cur) cur (making .after) after room)
+    planeNo making = lowest ((3, named) ∷ planeTests making before cur after room)
 
     pub plane-number : planeNo (cutPlanes m) ≡ planeNo m
     plane-number =
         lowest-behind 3 named _ _
-        (lowest-alike 4 _ _ planes-good
-        (λ g. ap (λ (making : Making). lowest (planeTests (making .before) before (making .cur) cur (making .after) after room)) (planes-same g)))
+        (lowest-behind 3 _ _ _
+        (lowest-alike 4 _ _ planes-good (λ g. ap (λ (making : Making). lowest (behind (planeTests making before cur after room))) (planes-same g))))
 
-    pub plane-value : {A : Type 0} (value : Making → A) (old : A) → written (planeNo m) (value (cutPlanes m)) old ≡ written (planeNo m) (value m) old
-    plane-value value old =
-        written-alike (planeNo m) old (λ z. ap value (planes-same (first-passes 4 _ _ (lit< tt) (rest-passes 3 _ _ (lit< tt) z))))
+    pub plane-same : planeNo m ≡ 0 → cutPlanes m ≡ m
+    plane-same z = planes-same (first-passes 4 _ _ (lit< tt) (rest-passes 3 _ _ (lit< tt) (rest-passes 3 _ _ (lit< tt) z)))
 
 -- ---- comb, which takes four numbers of a planar shape
 module _ (width height depth stride bytes : ℕ) where

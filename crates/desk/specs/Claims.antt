@@ -40,8 +40,8 @@ SampleSays =
 
 abbrev pub PlaneSays : Type 0
 PlaneSays =
-    (quality first : ℕ) (before : PlaneNumbers) (before-bytes : ℕ) (cur : PlaneNumbers) (cur-bytes : ℕ) (after : PlaneNumbers) (after-bytes room : ℕ)
-    → Says (planeTests quality first before before-bytes cur cur-bytes after after-bytes room)
+    (quality first : ℕ) (before cur after : PlaneNumbers) (before-bytes cur-bytes after-bytes room : ℕ) →
+    Says (planeTests quality first before cur after before-bytes cur-bytes after-bytes room)
 
 abbrev pub ToRgbSays : Type 0
 ToRgbSays = (conversion : Conversion) (y cb cr : Float) → Says (toRgbTests conversion y cb cr)

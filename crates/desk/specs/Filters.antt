@@ -5,17 +5,15 @@ use mathlib.Core.List.{List, _∷_}
 use lib.Dec.{leb}
 use lib.IntN.{ℤ}
 use lib.Ieee.{Float}
-use denote.Ref.{RefT, now}
-use denote.Triple.Both.{Both}
+use denote.Ref.{now}
+use Rattle.laws.specs.Contracts.{Slice}
 use Rattle.laws.specs.Refusal.{lowest}
-use Rattle.field.specs.Field.{firstRowOf, parityNamed}
-use Rattle.plane.specs.Plane.{valueOf}
 use Rattle.filter.specs.declared.Rows.{Rows}
 use Rattle.filter.specs.declared.Making.{Making}
 use Rattle.filter.specs.Rows.{qualityNamed, fieldRowsOf}
 use Rattle.filter.specs.Making.{sampleIn}
 use Rattle.filter.specs.Answer.{edgeTests as filterEdgeTests, sampleTests as filterSampleTests}
-use Rattle.fill.specs.Fill.{linesOf, planeTests as fillPlaneTests}
+use Rattle.fill.specs.Fill.{planeTests as fillPlaneTests, planeMade}
 use Rattle.numbers.specs.declared.PlaneNumbers.{PlaneNumbers}
 use Rattle.numbers.specs.Numbers.{shapeNamed}
 use Rattle.desk.specs.Planes.{named}
@@ -51,24 +49,21 @@ sampleNo quality rows before cur after before-bytes cur-bytes after-bytes x y =
     lowest (sampleTests quality rows before cur after before-bytes cur-bytes after-bytes x y)
 
 -- the value, of the planes as the call finds them
-abbrev pub sampleNamed :
-    {A B C : Type 0} → ℕ → Rows → PlaneNumbers → PlaneNumbers → PlaneNumbers → Both (RefT (List ℕ)) A → Both (RefT (List ℕ)) B → Both (RefT (List ℕ)) C
-    → ℤ → ℤ → Float
+abbrev pub sampleNamed : {A B C : Type 0} → ℕ → Rows → PlaneNumbers → PlaneNumbers → PlaneNumbers → Slice A → Slice B → Slice C → ℤ → ℤ → Float
 sampleNamed quality rows before-shape cur-shape after-shape before cur after x y =
     sampleIn (makingNamed quality rows before-shape cur-shape after-shape) (now (before .entry)) (now (cur .entry)) (now (after .entry)) x y
 
 -- 3 also where a code names nothing, or `first` is neither 0 nor 1
-abbrev pub planeTests : ℕ → ℕ → PlaneNumbers → ℕ → PlaneNumbers → ℕ → PlaneNumbers → ℕ → ℕ → List (ℕ × Bool)
-planeTests quality first before before-bytes cur cur-bytes after after-bytes room =
+abbrev pub planeTests : ℕ → ℕ → PlaneNumbers → PlaneNumbers → PlaneNumbers → ℕ → ℕ → ℕ → ℕ → List (ℕ × Bool)
+planeTests quality first before cur after before-bytes cur-bytes after-bytes room =
     (3, allNamed quality before cur after && leb first 1)
-    ∷ fillPlaneTests (shapeNamed before) before-bytes (shapeNamed cur) cur-bytes (shapeNamed after) after-bytes room
+    ∷ fillPlaneTests (makingNamed quality (fieldRowsOf first) before cur after) before-bytes cur-bytes after-bytes room
 
-abbrev pub planeNo : ℕ → ℕ → PlaneNumbers → ℕ → PlaneNumbers → ℕ → PlaneNumbers → ℕ → ℕ → ℕ
-planeNo quality first before before-bytes cur cur-bytes after after-bytes room =
-    lowest (planeTests quality first before before-bytes cur cur-bytes after after-bytes room)
+abbrev pub planeNo : ℕ → ℕ → PlaneNumbers → PlaneNumbers → PlaneNumbers → ℕ → ℕ → ℕ → ℕ → ℕ
+planeNo quality first before cur after before-bytes cur-bytes after-bytes room =
+    lowest (planeTests quality first before cur after before-bytes cur-bytes after-bytes room)
 
--- the samples of the plane that the numbers name
-abbrev pub linesNamed : ℕ → ℕ → List ℕ → PlaneNumbers → List ℕ → PlaneNumbers → List ℕ → PlaneNumbers → List Float
-linesNamed quality first before before-shape cur cur-shape after after-shape =
-    linesOf (qualityNamed quality) (fieldRowsOf (firstRowOf (parityNamed first))) (valueOf before (shapeNamed before-shape)) (valueOf cur (shapeNamed cur-shape))
-    (valueOf after (shapeNamed after-shape)) (shapeNamed cur-shape .width) (shapeNamed cur-shape .height)
+-- the samples, of the planes as the call finds them
+abbrev pub planeNamed : {A B C : Type 0} → ℕ → ℕ → PlaneNumbers → PlaneNumbers → PlaneNumbers → Slice A → Slice B → Slice C → List Float
+planeNamed quality first before-shape cur-shape after-shape before cur after =
+    planeMade (makingNamed quality (fieldRowsOf first) before-shape cur-shape after-shape) (now (before .entry)) (now (cur .entry)) (now (after .entry))

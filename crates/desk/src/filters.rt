@@ -7,7 +7,7 @@ ghost use Rattle.laws.specs.Rows.{over};
 ghost use Rattle.plane.specs.Plane.{valueOf};
 ghost use Rattle.filter.specs.Filter.{edgeOf};
 ghost use Rattle.numbers.specs.Numbers.{shapeNamed};
-ghost use Rattle.desk.specs.Filters.{rowsNamed, makingNamed, edgeNo, sampleNo, sampleNamed, planeNo, linesNamed};
+ghost use Rattle.desk.specs.Filters.{rowsNamed, makingNamed, edgeNo, sampleNo, sampleNamed, planeNo, planeNamed};
 ghost use Rattle.desk.specs.Inner.{cutPlanes};
 
 // How the edge runs at a place of a missing row, from -2 to 2. Numbers 3, 4 and 6.
@@ -101,8 +101,8 @@ pub extern "C" fn desk_plane(
     after_shape: PlaneNumbers,
     out: &mut [f32],
 ) -> u8
-    ensures { λ r. ⌜ r ≡ planeNo quality first «before_shape» (length (now (before .entry))) «cur_shape» (length (now (cur .entry))) «after_shape» (length (now (after .entry))) (length (now (out .entry))) ⌝ }
-    ensures { λ _. ⌜ now (out .exit) ≡ written (planeNo quality first «before_shape» (length (now (before .entry))) «cur_shape» (length (now (cur .entry))) «after_shape» (length (now (after .entry))) (length (now (out .entry)))) (over (linesNamed quality first (now (before .entry)) «before_shape» (now (cur .entry)) «cur_shape» (now (after .entry)) «after_shape») (now (out .entry))) (now (out .entry)) ⌝ }
+    ensures { λ r. ⌜ r ≡ planeNo quality first «before_shape» «cur_shape» «after_shape» (length (now (before .entry))) (length (now (cur .entry))) (length (now (after .entry))) (length (now (out .entry))) ⌝ }
+    ensures { λ r. ⌜ now (out .exit) ≡ written r (over (planeNamed quality first «before_shape» «cur_shape» «after_shape» before cur after) (now (out .entry))) (now (out .entry)) ⌝ }
 {
     let named = (quality <= 3)
         & (before_shape.layout <= 3)
@@ -112,15 +112,7 @@ pub extern "C" fn desk_plane(
     if !named {
         return refusal::OUTSIDE;
     }
-    fill::plane(
-        out,
-        filter::Quality::named(quality),
-        field::Parity::named(first as u64),
-        before,
-        numbers::shape_named(before_shape),
-        cur,
-        numbers::shape_named(cur_shape),
-        after,
-        numbers::shape_named(after_shape),
-    )
+    let rows = filter::Rows::field(first as u32);
+    let making = making_named(quality, rows, before_shape, cur_shape, after_shape);
+    fill::plane(out, making, before, cur, after)
 }

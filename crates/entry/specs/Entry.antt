@@ -20,9 +20,6 @@ abbrev pub wordAt : List ℕ → ℕ → ℕ
 wordAt bytes i = getD bytes i 0 + 256 * getD bytes (i + 1) 0
 
 -- An entry is parity (0 top), present (0 or 1), then busy and total of the leading field, then of the trailing: twelve bytes.
-abbrev pub entryBytes : ℕ
-entryBytes = 12
-
 unfoldable pub entryOf : List ℕ → Entry
 entryOf bytes = record {
   parity = wordAt bytes 0;

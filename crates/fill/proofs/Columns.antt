@@ -1,61 +1,27 @@
 -- The columns of an expanded row, by their distance from a column of the tile.
 use mathlib.Core.Path.{_≡_, sym, _∙_, ap}
 use mathlib.Core.List.{List}
-use mathlib.Core.Logic.{_⊎_, inl, inr, ⊎-elim}
-use Prim.Native.Nat.{ℕ, zero, suc, _+_, _-_, _*_, _≤_, _<_}
-use native.Mathlib.Nat.{eq-zero-or-pos, add-assoc}
+use Prim.Native.Nat.{ℕ, zero, suc, _+_, _-_, _*_, _≤_, _<_, zero-le}
+use native.Mathlib.Nat.{add-assoc}
 use native.Mathlib.Omega.{arith}
-use borrow.Author.Tests.{lt-ltb, le-ltb}
+use borrow.Author.Tests.{le-ltb}
 use lib.IntN.{ℤ, pos, negsuc, subℕ, negℤ, _+ℤ_, _-ℤ_, _*ℤ_}
 use lib.ListN.{getD}
 use lib.Ieee.{Float, nan}
 use Rattle.filter.specs.Filter.{Sampler, one, three}
 use Rattle.filter.specs.Held.{step}
+use Rattle.filter.proofs.Offsets.{same-difference, add-differences}
 use Rattle.fill.specs.Rows.{RowOf}
 
--- ---- two numbers, and their difference by its sign
-
-pub below-or-from : (m n : ℕ) → (m < n) ⊎ (n ≤ m)
-below-or-from m n = ⊎-elim (λ e. inr (omega arith)) (λ l. inl (omega arith)) (eq-zero-or-pos (n - m))
-
-pub subℕ-below : (a b : ℕ) → a < b → subℕ a b ≡ negsuc (b - suc a)
-subℕ-below a b l = simp (lt-ltb a b l)
-
-pub subℕ-from : (a b : ℕ) → b ≤ a → subℕ a b ≡ pos (a - b)
-subℕ-from a b l = simp (le-ltb a b l)
-
--- ---- a column, by its distance from x
-
 -- the place x + n holds the column n - 6 off x
-off-below : (x n : ℕ) → n < 6 → subℕ (x + n) 6 ≡ subℕ x (6 - n)
-off-below x n l = ⊎-elim left right (below-or-from (x + n) 6)
-  where
-    down : (x n : ℕ) → n < 6 → x + n < 6 → 6 - suc (x + n) ≡ 6 - n - suc x
-    down x n l a = omega arith
-
-    past : (x n : ℕ) → n < 6 → 6 ≤ x + n → x + n - 6 ≡ x - (6 - n)
-    past x n l a = omega arith
-
-    left : x + n < 6 → subℕ (x + n) 6 ≡ subℕ x (6 - n)
-    left a = let b : x < 6 - n = omega arith in rw (subℕ-below (x + n) 6 a, subℕ-below x (6 - n) b) (ap negsuc (down x n l a))
-
-    right : 6 ≤ x + n → subℕ (x + n) 6 ≡ subℕ x (6 - n)
-    right a = let b : 6 - n ≤ x = omega arith in rw (subℕ-from (x + n) 6 a, subℕ-from x (6 - n) b) (ap pos (past x n l a))
-
 off : (x n : ℕ) → subℕ (x + n) 6 ≡ pos x +ℤ subℕ n 6
-off x n = ⊎-elim left right (below-or-from n 6)
+off x n = same-difference (x + n) 6 (x + n) (0 + 6) (omega arith) ∙ (sym (add-differences x 0 n 6) ∙ ap (λ (z : ℤ). z +ℤ subℕ n 6) (whole x))
   where
-    size : (n : ℕ) → n < 6 → suc (6 - suc n) ≡ 6 - n
-    size n l = omega arith
+    same : (x : ℕ) → x - 0 ≡ x
+    same x = omega arith
 
-    move : (x n : ℕ) → 6 ≤ n → x + n - 6 ≡ x + (n - 6)
-    move x n l = omega arith
-
-    left : n < 6 → subℕ (x + n) 6 ≡ pos x +ℤ subℕ n 6
-    left a = rw (subℕ-below n 6 a) (off-below x n a ∙ ap (subℕ x) (sym (size n a)))
-
-    right : 6 ≤ n → subℕ (x + n) 6 ≡ pos x +ℤ subℕ n 6
-    right a = let b : 6 ≤ x + n = omega arith in rw (subℕ-from n 6 a, subℕ-from (x + n) 6 b) (ap pos (move x n a))
+    whole : (x : ℕ) → subℕ x 0 ≡ pos x
+    whole x = simp (le-ltb x 0 zero-le) (ap pos (same x))
 
 pub column :
     {rows : List Float} {start from count : ℕ} {y : ℤ} {v : Sampler} → RowOf rows start from count y v →

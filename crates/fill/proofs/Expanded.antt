@@ -1,10 +1,11 @@
 -- A row of a tile, as `expand` puts it together: the columns within the plane are read, and those past an edge repeat the last within.
 use mathlib.Core.Path.{_≡_, sym, _∙_, ap}
 use mathlib.Core.List.{List, _++_}
-use mathlib.Core.Logic.{⊎-elim}
+use mathlib.Core.Logic.{_⊎_, inl, inr, ⊎-elim}
 use Prim.Native.Nat.{ℕ, zero, suc, _+_, _-_, _≤_, _<_, min}
-use native.Mathlib.Nat.{le-refl, lt-trans, lt-of-le-of-lt}
+use native.Mathlib.Nat.{eq-zero-or-pos, le-refl, lt-trans, lt-of-le-of-lt}
 use native.Mathlib.Omega.{arith}
+use borrow.Author.Tests.{lt-ltb, le-ltb}
 use lib.IntN.{ℤ, pos, subℕ, _-ℤ_}
 use lib.ListN.{length, getD, take, drop, length-append, length-drop, List·getD-append}
 use lib.Seq.{length-take-le, getD-append-add, getD-take, getD-drop}
@@ -17,7 +18,6 @@ use Rattle.plane.specs.Coordinates.{held}
 use Rattle.filter.specs.Filter.{Sampler}
 use Rattle.fill.specs.Rows.{RowOf, Around, Trio, Motion, Under}
 use Rattle.fill.specs.Lines.{Tiled}
-use Rattle.fill.proofs.Columns.{below-or-from, subℕ-below, subℕ-from}
 
 -- ---- a list of which a part was lent, once `part` came back
 
@@ -77,6 +77,16 @@ listed-here {new} {old} {part} {at} {to} f s e i a b =
 
 -- ---- a row of a plane
 
+pub below-or-from : (m n : ℕ) → (m < n) ⊎ (n ≤ m)
+below-or-from m n = ⊎-elim (λ e. inr (omega arith)) (λ l. inl (omega arith)) (eq-zero-or-pos (n - m))
+
+-- a difference, held
+held-difference : (size a b : ℕ) → held size (subℕ a b) ≡ min (a - b) (size - 1)
+held-difference size a b = ⊎-elim (λ l. simp (lt-ltb a b l) (none a b (size - 1) l)) (λ l. simp (le-ltb a b l)) (below-or-from a b)
+  where
+    none : (a b c : ℕ) → a < b → 0 ≡ min (a - b) c
+    none a b c l = omega arith
+
 held-held : (size : ℕ) (y : ℤ) (r : ℕ) → r < size → held size y ≡ r → held size (pos r) ≡ held size y
 held-held size y r l e = omega arith
 
@@ -91,8 +101,8 @@ pub in-order :
     last ≡ start + (count + 12) - (from + count + 6 - width) → (start ≤ first) × (first < last) × (last ≤ start + (count + 12))
 in-order width from count start some within at-first at-last = (omega arith, omega arith, omega arith)
 
-one-less : {first last : ℕ} → first < last → (first ≤ last - 1) × (last - 1 < last)
-one-less l = (omega arith, omega arith)
+below-last : {first last : ℕ} → first < last → (first ≤ last - 1) × (last - 1 < last)
+below-last l = (omega arith, omega arith)
 
 -- the first place that is read, and the place past the last where that is the plane's last column
 first-is : (from start : ℕ) {first column : ℕ} → first ≡ start + (6 - from) → column ≡ from - 6 → first + from ≡ start + 6 + column
@@ -103,20 +113,21 @@ last-is :
     last < start + (count + 12) → last + from ≡ start + 6 + width
 last-is width from count start within at-last l = omega arith
 
-left-held : (from i width first : ℕ) {column : ℕ} → from + i < 6 → column ≡ from - 6 → min (column + (first - first)) (width - 1) ≡ 0
-left-held from i width first l at-column = omega arith
+-- the columns past an edge are held in the last that is read
+left-held : (from start i first width column : ℕ) → first ≡ start + (6 - from) → column ≡ from - 6 → start + i < first → min (column + (first - first)) (width - 1) ≡ min (from + i - 6) (width - 1)
+left-held from start i first width column at-first at-column l =
+    let a : column + (first - first) ≡ 0 = omega arith in
+    let b : from + i - 6 ≡ 0 = omega arith in
+    rw (a, b)
 
 right-held :
     (width from start i first last column : ℕ) → first < last → last ≤ start + i → first + from ≡ start + 6 + column → last + from ≡ start + 6 + width →
-    (6 ≤ from + i) × (min (column + (last - 1 - first)) (width - 1) ≡ min (from + i - 6) (width - 1))
+    min (column + (last - 1 - first)) (width - 1) ≡ min (from + i - 6) (width - 1)
 right-held width from start i first last column some l at-first at-last =
     let a : column + (last - 1 - first) ≡ width - 1 = omega arith in
-    let b : width ≤ from + i - 6 = omega arith in
-    (omega arith, rw a (same (width - 1) (from + i - 6) (least width (from + i - 6) b)))
+    let b : width - 1 ≤ from + i - 6 = omega arith in
+    rw a (same (width - 1) (from + i - 6) b)
   where
-    least : (m n : ℕ) → m ≤ n → m - 1 ≤ n
-    least m n l = omega arith
-
     same : (m n : ℕ) → m ≤ n → min m m ≡ min n m
     same m n l = omega arith
 
@@ -137,33 +148,34 @@ module _ (bytes : List ℕ) (s : Shape) (row from count start first last column 
   }
 
   module _ (y : ℤ) (e : held (s .height) y ≡ row) where
-    -- a place that was read, and the coordinate that it stands for
-    read : (k : ℕ) (x : ℤ) → first ≤ k → k < last → held (s .width) (pos (column + (k - first))) ≡ held (s .width) x → getD mid k nan ≡ valueOf bytes s x y
-    read k x l m h =
-        listed-here _ a inner-is k l m ∙ sample-as bytes s (pos (column + (k - first))) x (pos row) y h (held-held (s .height) y row (tiled .row) e)
+    -- a place that was read, and the column that it stands for
+    read :
+        (k i : ℕ) → first ≤ k → k < last → min (column + (k - first)) (s .width - 1) ≡ min (from + i - 6) (s .width - 1) →
+        getD mid k nan ≡ valueOf bytes s (subℕ (from + i) 6) y
+    read k i l m h =
+        listed-here _ a inner-is k l m
+        ∙ sample-as bytes s (pos (column + (k - first))) (subℕ (from + i) 6) (pos row) y (h ∙ sym (held-difference (s .width) (from + i) 6))
+        (held-held (s .height) y row (tiled .row) e)
 
     on-left : (i : ℕ) → start + i < first → getD new (start + i) nan ≡ valueOf bytes s (subℕ (from + i) 6) y
     on-left i l =
-        let under : from + i < 6 = omega arith in
         c .under (start + i) (lt-trans l (order .1))
         ∙ (listed-here _ b left-is (start + i) (omega arith) l
-        ∙ read first (subℕ (from + i) 6) (le-refl first) (order .1) (rw (subℕ-below (from + i) 6 under) (left-held from i (s .width) first under at-column)))
+        ∙ read first i (le-refl first) (order .1) (left-held from start i first (s .width) column at-first at-column l))
 
     in-mid : (i : ℕ) → first ≤ start + i → start + i < last → getD new (start + i) nan ≡ valueOf bytes s (subℕ (from + i) 6) y
     in-mid i l m =
-        let same : column + (start + i - first) ≡ from + i - 6 = omega arith in
-        c .under (start + i) m
-        ∙ (b .over (start + i) l
-        ∙ read (start + i) (subℕ (from + i) 6) l m (rw (subℕ-from (from + i) 6 (omega arith), same)))
+        let same : column + (start + i - first) ≡ from + i - 6 = omega (arith, first-is from start at-first at-column) in
+        c .under (start + i) m ∙ (b .over (start + i) l ∙ read (start + i) i l m (rw same))
 
     on-right : (i : ℕ) → last ≤ start + i → i < count + 12 → getD new (start + i) nan ≡ valueOf bytes s (subℕ (from + i) 6) y
     on-right i l m =
         let end : start + i < start + (count + 12) = omega arith in
-        let h =
-        right-held (s .width) from start i first last column (order .1) l (first-is from start at-first at-column)
-        (last-is (s .width) from count start (tiled .within) at-last (lt-of-le-of-lt l end)) in
+        let e = last-is (s .width) from count start (tiled .within) at-last (lt-of-le-of-lt l end) in
+        let one-less = below-last (order .1) in
         listed-here _ c right-is (start + i) l end
-        ∙ read (last - 1) (subℕ (from + i) 6) (one-less (order .1) .0) (one-less (order .1) .1) (rw (subℕ-from (from + i) 6 (h .0)) (h .1))
+        ∙ read (last - 1) i (one-less .0) (one-less .1)
+        (right-held (s .width) from start i first last column (order .1) l (first-is from start at-first at-column) e)
 
     expanded-row : RowOf new start from count y (valueOf bytes s)
     expanded-row = record {
@@ -201,19 +213,10 @@ motion-stays u few m = record {
 
 pub held-up : (size y k : ℕ) → y < size → held size (pos y -ℤ pos k) ≡ y - k
 held-up size y zero l = omega arith
-held-up size y (suc k) l = ⊎-elim past within (below-or-from y (suc k))
+held-up size y (suc k) l = held-difference size y (suc k) ∙ within size y k l
   where
-    none : (y k : ℕ) → y < suc k → 0 ≡ y - suc k
-    none y k a = omega arith
-
-    some : (size y k : ℕ) → y < size → min (y - suc k) (size - 1) ≡ y - suc k
-    some size y k l = omega arith
-
-    past : y < suc k → held size (pos y -ℤ pos (suc k)) ≡ y - suc k
-    past a = rw (subℕ-below y (suc k) a) (none y k a)
-
-    within : suc k ≤ y → held size (pos y -ℤ pos (suc k)) ≡ y - suc k
-    within a = rw (subℕ-from y (suc k) a) (some size y k l)
+    within : (size y k : ℕ) → y < size → min (y - suc k) (size - 1) ≡ y - suc k
+    within size y k l = omega arith
 
 pub held-here : (size y : ℕ) → y < size → held size (pos y) ≡ y
 held-here size y l = omega arith

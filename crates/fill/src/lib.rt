@@ -213,23 +213,23 @@ fn trio(
     expand(rows, start + 1048, src, s, y, from, count);
 }
 
-// Where the rows start.
+// The rows stand one behind the other, each in 524 places. Of cur, the row above,
 const ABOVE: usize = 0;
-
+// and the row below.
 const BELOW: usize = 524;
-
+// Of before, the row above,
 const EARLIER_UP: usize = 1048;
-
+// the row below,
 const EARLIER_DOWN: usize = 1572;
-
+// and the row itself.
 const EARLIER: usize = 2096;
-
+// Of after, the row above,
 const LATER_UP: usize = 2620;
-
+// the row below,
 const LATER_DOWN: usize = 3144;
-
+// and the row itself.
 const LATER: usize = 3668;
-
+// Of cur, the row three above, and behind it the row three below.
 const FAR_ABOVE: usize = 4192;
 
 // What Motion looks at, of all three planes.

@@ -1,15 +1,15 @@
 -- Laws of a detector in the state's bytes.
-use Prim.Native.Nat.{ℕ, _+_, _*_, _%_, _≤_, _<_, _^_}
+use Prim.Native.Nat.{ℕ, _+_, _*_, _≤_, _<_, _^_}
 use mathlib.Core.Path.{_≡_, refl, sym, ap, _∙_}
-use mathlib.Core.Bool.{Bool, true, false, cond, not}
+use mathlib.Core.Bool.{Bool, true, false, cond}
 use mathlib.Core.List.{List, [], _∷_, _++_, append-assoc}
 use native.Mathlib.Omega.{arith}
 use borrow.Author.Tests.{le-leb}
-use lib.Dec.{eqb, lit<}
-use lib.ListN.{length, getD, take, drop, replicate, length-append, length-set}
+use lib.Dec.{eqb}
+use lib.ListN.{length, take, drop, length-append, length-set}
 use lib.Seq.{getD-take, take-at, drop-at, drop-drop, length-take-le}
 use Rattle.laws.specs.Refusal.{lowest, written}
-use Rattle.laws.specs.Rows.{listed, over}
+use Rattle.laws.specs.Rows.{over}
 use Rattle.laws.proofs.Lists.{length-listed}
 use Rattle.laws.proofs.Rows.{over-all}
 use Rattle.laws.proofs.Sums.{same-terms}

@@ -20,11 +20,11 @@ ghost use mathlib.Core.List.{[], _∷_, _++_};
 ghost use lib.ListN.{length, replicate};
 ghost use Rattle.laws.specs.Refusal.{lowest, whenDone, written};
 ghost use Rattle.laws.specs.Rows.{over};
-ghost use Rattle.field.specs.Field.{firstRowOf, parityNamed, cadenceNumber};
+ghost use Rattle.field.specs.Field.{firstRowOf, parityNamed};
 ghost use Rattle.plane.specs.Plane.{gridShape};
 ghost use Rattle.block.specs.Answer.{countsOf};
 ghost use Rattle.pulldown.specs.Lock.{answerNo, answerValues};
-ghost use Rattle.telecine.specs.Detector.{nothingKept, freshDetector, resetOf, measuredNo, measuredDetector, measuredCadence, pushDetector, pushCadence, pushStore};
+ghost use Rattle.telecine.specs.Detector.{nothingKept, resetOf, measuredNo, measuredDetector, measuredCadence};
 ghost use Rattle.entry.specs.Entry.{cadencesNo, cadencesOf};
 ghost use Rattle.filmdesk.specs.Kept.{numberIf, detectorIn, detectorNumbers, keeping, chosenNumber, chosenNamed};
 ghost use Rattle.filmdesk.specs.Inner.{firstTests, detectorWith};
@@ -239,11 +239,10 @@ fn push_counts(state: &mut [u8], first: Parity, measured: Measured) -> Answer
     let seen = telecine::seen_measured(last, first, measured);
     let stepped = telecine::step(&mut ring, course, last, first, seen);
     let after = stepped.course;
-    let led = stepped.last;
     let answer = stepped.answer;
     match answer {
         Answer::Gave(found) => {
-            keep_apart(state, &ring, after, kept, led);
+            keep_apart(state, &ring, after, kept, Chosen::Field(first));
             Answer::Gave(found)
         }
         Answer::Refused(no) => Answer::Refused(no),
@@ -324,8 +323,8 @@ pub extern "C" fn desk_cadences(entries: &[u8], out: &mut [u8]) -> u8
     ensures { λ r. ⌜ r ≡ cadencesNo (now (entries .entry)) (length (now (out .entry))) ⌝ }
     ensures { λ r. ⌜ now (out .exit) ≡ written r (over (cadencesOf (now (entries .entry))) (now (out .entry))) (now (out .entry)) ⌝ }
 {
-    let number = entry::cadences(out, entries);
-    number
+    let got = entry::cadences(out, entries);
+    got
 }
 
 // A fresh detector at the start of `state`. Number 7.

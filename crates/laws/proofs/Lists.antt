@@ -2,10 +2,10 @@
 -- writes row 0, row 1, .. keeps `Stacked`: `fill-starts` and `stack-starts` enter them, `fills` and `stacks` are a turn, `fill-ends` and
 -- `stack-ends` leave them.
 use Prim.Native.Nat.{ℕ, zero, suc, _+_, _-_, _*_, _≤_, _<_, min}
-use mathlib.Core.Path.{_≡_, refl, sym, ap, ap₂, subst, _∙_}
+use mathlib.Core.Path.{_≡_, refl, sym, ap, ap₂, _∙_}
 use mathlib.Core.List.{List, [], _∷_, _++_, append-nil, append-assoc}
 use native.Mathlib.Decide.{ℕ-discrete}
-use native.Mathlib.Nat.{add-zero, add-suc, zero-mul, suc-mul, one-mul, add-mul, mul-le-mul-right, le-trans, le-antisymm}
+use native.Mathlib.Nat.{add-zero, add-suc, zero-mul, suc-mul, one-mul, mul-le-mul-right, le-trans, le-antisymm}
 use native.Mathlib.Numerals.{add-one}
 use native.Mathlib.Omega.{arith}
 use lib.ListN.{length, take, drop, getD, set, length-append, length-take, length-drop, length-set, drop-of-length-le, List·getD-append}

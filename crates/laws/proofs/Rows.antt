@@ -1,12 +1,12 @@
 -- Laws of rows laid end to end, by which a loop that writes sample after sample, or row after row, is known to have written them all.
-use Prim.Native.Nat.{ℕ, zero, suc, _+_, _-_, _*_, _≤_, _<_}
+use Prim.Native.Nat.{ℕ, suc, _+_, _-_, _*_, _≤_, _<_}
 use mathlib.Core.Path.{_≡_, refl, sym, _∙_, ap}
-use mathlib.Core.List.{List, [], _∷_, _++_, append-assoc, append-nil}
-use native.Mathlib.Nat.{suc-mul, zero-mul, mul-le-mul-right}
+use mathlib.Core.List.{List, _∷_, _++_, append-assoc, append-nil}
+use native.Mathlib.Nat.{suc-mul, mul-le-mul-right}
 use native.Mathlib.Numerals.{add-one}
 use native.Mathlib.Omega.{arith}
 use lib.ListN.{length, getD, take, drop, set, length-append, length-take, length-drop}
-use lib.Seq.{drop-cons, drop-drop, drop-length, set-at, take-at, drop-at}
+use lib.Seq.{drop-cons, drop-length, set-at}
 use Rattle.laws.specs.Rows.{listed, laid, over}
 use Rattle.laws.proofs.Lists.{length-listed, length-laid, behind-part, over-then, Stacked, stack-ends}
 

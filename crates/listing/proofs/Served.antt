@@ -1,15 +1,15 @@
 -- A buffer of 16,384 bytes holds every unit that the machine of `reel` wants, and a machine that wants none has ended.
-use Prim.Native.Nat.{ℕ, zero, suc, _+_, _-_, _≤_, _<_}
+use Prim.Native.Nat.{ℕ, zero, suc, _-_, _≤_, _<_}
 use native.Mathlib.Nat.{le-trans}
 use native.Mathlib.Omega.{arith}
-use mathlib.Core.Path.{_≡_, refl, sym, ap, ap₂, _∙_}
-use mathlib.Core.Bool.{Bool, true, false, cond, _||_}
-use mathlib.Core.List.{List, [], _∷_}
+use mathlib.Core.Path.{_≡_, refl, ap₂}
+use mathlib.Core.Bool.{Bool, true, false, cond}
+use mathlib.Core.List.{List, []}
 use lib.Dec.{eqb, leb}
 use lib.ListN.{length}
 use borrow.Author.Tests.{eqb-true, eqb-false, ne-eqb, leb-true}
-use Rattle.laws.specs.Refusal.{lowest}
-use Rattle.laws.proofs.Refusal.{first-passes, rest-passes}
+use Rattle.laws.specs.Refusal.{lowest, rising}
+use Rattle.laws.proofs.Refusal.{all-pass}
 use Rattle.pages.specs.Claims.{Serves}
 use Rattle.pulldown.specs.Lock.{lockedOf}
 use Rattle.telecine.specs.History.{Push, push, numberIn, cadenceIn, next}
@@ -114,11 +114,10 @@ first-on r true g = record { fine = g .fine; at = tt }
 first-on r false g = record { fine = g .fine; at = tt }
 
 small-picture : (p : Pictured) (n : ℕ) → lowest (pictureCountTests p n) ≡ 0 → 0 < n → pictureBytes p ≤ 16384
+unfolding rising
 small-picture p n e h =
     leb-true (pictureBytes p) 16384
-    (given-if (eqb n 0) (leb (pictureBytes p) 16384) (ne-eqb n 0 (λ z. omega arith))
-    (first-passes 7 (eqb n 0 || leb (pictureBytes p) 16384) [] (omega arith)
-    (rest-passes 3 (eqb n 0 || p .given) ((7, eqb n 0 || leb (pictureBytes p) 16384) ∷ []) (omega arith) e)))
+    (given-if (eqb n 0) (leb (pictureBytes p) 16384) (ne-eqb n 0 (λ z. omega arith)) (all-pass (pictureCountTests p n) tt e .1 .0))
 
 counted : (r : Reel) (n : ℕ) → GoodReel r → lowest (pictureCountTests (r .pictured) n) ≡ 0 → GoodNext (onTo r (Pictures n))
 counted r n g e = record { fine = g .fine; at = λ h. (some-picture (r .pictured) n (g .fine) e h, small-picture (r .pictured) n e h) }

@@ -5,7 +5,7 @@ use mathlib.Core.List.{List}
 use lib.Dec.{eqb}
 use Rattle.pages.specs.declared.Ask.{Ask}
 use Rattle.pages.specs.Pages.{nothingHeld, cameOf}
-use Rattle.pages.specs.Run.{Machine, Program, steppedBy, asked, stepped}
+use Rattle.pages.specs.Run.{Machine, Program, asked, stepped}
 use Rattle.reel.specs.declared.Reel.{Reel}
 use Rattle.reel.specs.Machine.{startOf, wantOf, nextOf, storeAfter}
 use Rattle.listing.specs.declared.Lister.{Lister}

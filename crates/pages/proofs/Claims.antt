@@ -1,21 +1,20 @@
 -- The proofs of what specs/Claims.antt claims.
-use Prim.Native.Nat.{ℕ, zero, suc, _+_, _-_, _≤_, _<_}
+use Prim.Native.Nat.{ℕ, zero, suc, _+_, _≤_, _<_}
 use native.Mathlib.Omega.{arith}
 use mathlib.Core.Path.{_≡_, refl, sym, ap, subst, _∙_}
 use mathlib.Core.Bool.{Bool, true, false, true≢false, _||_}
-use mathlib.Core.List.{List, [], _∷_, _++_, append-nil, append-assoc}
+use mathlib.Core.List.{List, [], _++_, append-nil, append-assoc}
 use lib.Dec.{leb, eqb}
 use lib.ListN.{length, take, drop, length-append, length-take, length-drop}
 use lib.Seq.{take-append-le, drop-append-le, take-append-add, take-append-seam, length-take-le}
-use borrow.Author.Tests.{eq-eqb, ne-eqb, eqb-true, eqb-false, leb-true, leb-false, le-leb}
-use Rattle.laws.specs.Rows.{over}
+use borrow.Author.Tests.{eq-eqb, eqb-true, eqb-false, leb-true, leb-false, le-leb}
 use Rattle.pages.specs.declared.Held.{Held}
 use Rattle.pages.specs.declared.Ask.{Ask}
 use Rattle.pages.specs.declared.Ask.the-variants.{Unit, Read, Write, Stop}
 use Rattle.pages.specs.Pages.{nothingHeld, heldOf, withoutOf, askOf, put}
-use Rattle.pages.specs.Run.{Machine, fed, textIn, Program, steppedBy, asked, stepped, delivered, undelivered, joined, World, answered, writtenBy, worldNext, worldAfter, pagesIn, started}
+use Rattle.pages.specs.Run.{Machine, fed, textIn, steppedBy, asked, delivered, undelivered, joined, World, answered, writtenBy, worldNext}
 use Rattle.pages.specs.Claims.{Writes, Serves, PagesAreTheText}
-use Rattle.pages.proofs.Parts.{left, length-part}
+use Rattle.pages.proofs.Parts.{left}
 use Rattle.pages.proofs.Stock.{Stock, roomIn, readIn, heldThen, fewer-left, reads-on}
 
 -- ---- what is asked for

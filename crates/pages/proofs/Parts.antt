@@ -1,14 +1,14 @@
 -- Laws of what is held, a part of a list, and of what is asked for.
 use Prim.Native.Nat.{ℕ, zero, suc, _+_, _-_, _≤_, _<_, min}
-use native.Mathlib.Nat.{add-assoc, add-comm, add-zero, zero-add, zero-sub}
+use native.Mathlib.Nat.{add-comm, zero-add, zero-sub}
 use native.Mathlib.Omega.{arith}
 use native.Mathlib.Numerals.{unary-clauses, add-one}
 use mathlib.Core.Path.{_≡_, refl, sym, ap, _∙_}
 use mathlib.Core.Bool.{Bool, true, false, cond, _||_, true≢false}
-use mathlib.Core.List.{List, [], _∷_, _++_, append-assoc}
+use mathlib.Core.List.{List, [], _∷_, _++_}
 use lib.Dec.{leb, eqb}
-use lib.ListN.{length, take, drop, getD, set, length-append, length-take, length-drop, take-append-drop}
-use lib.Seq.{slice, paste, take-all, take-length, take-nil, drop-nil, take-take, take-append-seam, take-append-add, drop-append-add, drop-drop, paste-suc, drop-paste, getD-drop, length-take-le}
+use lib.ListN.{length, take, drop, getD, set, length-take, length-drop}
+use lib.Seq.{slice, paste, take-length, take-nil, drop-nil, drop-drop, paste-suc, drop-paste, getD-drop, length-take-le}
 use Rattle.laws.specs.Rows.{over}
 use borrow.Author.Tests.{leb-true}
 use Rattle.pages.specs.declared.Ask.{Ask}

@@ -2,17 +2,17 @@
 use Prim.Native.Nat.{ℕ, zero, suc, _+_, _-_, _≤_, _<_, min}
 use native.Mathlib.Omega.{arith}
 use mathlib.Core.Path.{_≡_, refl, sym, ap, _∙_}
-use mathlib.Core.Bool.{Bool, true, false}
-use mathlib.Core.List.{List, [], _∷_, _++_, append-nil, append-assoc}
+use mathlib.Core.Bool.{Bool, true}
+use mathlib.Core.List.{List, [], _∷_, _++_, append-assoc}
 use lib.Dec.{eqb}
 use lib.ListN.{length, take, drop, length-append, length-take, length-drop, take-append-drop}
-use lib.Seq.{slice, take-append-seam, take-append-add, drop-append-add, take-all, take-length}
+use lib.Seq.{take-append-seam, take-append-add, drop-append-add}
 use borrow.Author.Tests.{eqb-true}
 use Rattle.laws.specs.Rows.{over}
 use Rattle.pages.specs.declared.Held.{Held}
 use Rattle.pages.specs.Pages.{heldOf, frontOf, cameOf, put}
 use Rattle.pages.specs.Run.{delivered, undelivered, joined}
-use Rattle.pages.proofs.Parts.{none, length-part}
+use Rattle.pages.proofs.Parts.{length-part}
 
 -- ---- what is delivered
 

@@ -1,5 +1,5 @@
 -- What is claimed of programs that read by units and write pages. proofs/Claims.antt proves each claim under its name in small letters.
-use Prim.Native.Nat.{ℕ, _+_, _*_, _≤_}
+use Prim.Native.Nat.{ℕ, _≤_}
 use mathlib.Core.Path.{_≡_}
 use mathlib.Core.List.{List, []}
 use lib.ListN.{length}

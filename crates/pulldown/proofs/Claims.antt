@@ -1,5 +1,5 @@
--- The claims of specs/Claims.antt, with the laws by which a later crate carries them over to its own calls: `holds` after any history,
--- `third` of any run, `push-taken` and `foretold-by` of any lock.
+-- The claims of specs/Claims.antt, with the laws by which a later crate carries them over to its own calls: `holds` after any history, `push-taken`
+-- and `one-taken` of any lock.
 use Prim.Native.Nat.{ℕ, zero, suc, _+_, min, _<_, _≤_}
 use native.Mathlib.Omega.{arith}
 use mathlib.Core.Path.{_≡_, refl, sym, ap, _∙_, subst}
@@ -35,7 +35,7 @@ pub meets-decided : MeetsDecided
 meets-decided p run = (meets-from p run, meets-of p run)
 
 -- a run meets a phase, or has none
-pub met-or-none : (run : List Frame)
+met-or-none : (run : List Frame)
     → ((phaseOf run < 5) × Meets (phaseOf run) run) ⊎ ((phaseOf run ≡ 5) × ((p : ℕ) → p < 5 → Meets p run → ⊥))
 met-or-none run =
     ⊎-elim (λ h. inl (ltb-true _ _ h, meets-from _ run (phase-met run (ltb-true _ _ h)))) (λ h. inr (none (ltb-false _ _ h)))
@@ -164,7 +164,7 @@ pub push-taken : (l : Lock) (s : Seen) → l .course .taken < 4000000000 → pus
 unfolding lowest
 push-taken l s h = rw (lt-ltb (l .course .taken) 4000000000 h)
 
-pub push-refused : (l : Lock) (s : Seen) → 4000000000 ≤ l .course .taken → pushLock l s ≡ l
+push-refused : (l : Lock) (s : Seen) → 4000000000 ≤ l .course .taken → pushLock l s ≡ l
 unfolding lowest
 push-refused l s h = rw (le-ltb (l .course .taken) 4000000000 h)
 
@@ -225,7 +225,7 @@ not-none (suc (suc (suc (suc zero)))) h e = let z : _≡_ {A = ℕ} 0 1 = cc in 
 not-none (suc (suc (suc (suc (suc step))))) h e = omega arith
 
 -- the cadence by the phase of the run is what the demand says
-pub third : (n : ℕ) (run : List Frame) → Third n run (cadenceBy (phaseOf run) n)
+third : (n : ℕ) (run : List Frame) → Third n run (cadenceBy (phaseOf run) n)
 third n run = record {
   exactly = (
     λ other. ⊎-elim (λ met. (phaseOf run, met .0, met .1)) (λ none. absurd (other (unmet (none .0)))) (met-or-none run),
@@ -255,7 +255,7 @@ locked-says seens h =
       λ m. rw (phase-is (m .0) (runOf seens) (m .1) (meets-of _ _ (m .2))) (lt-ltb (m .0) 5 (m .1)),
     )
 
-pub foretold-by : (l : Lock) (seens : List Seen) (at : ℕ) → Holds l seens
+foretold-by : (l : Lock) (seens : List Seen) (at : ℕ) → Holds l seens
     → foretold (l .course .phase) (l .course .since) at ≡ foretold (phaseOf (runOf seens)) (lockFrame (runOf seens)) at
 unfolding foretold
 foretold-by l seens at h =

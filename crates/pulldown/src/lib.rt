@@ -19,13 +19,13 @@ ghost use Rattle.pulldown.specs.Lock.{answerNo, answerValues, symbolAt, 
 ghost use Rattle.pulldown.specs.Codes.{seenCode, seenBy, cadencesOf, codesNo};
 ghost use Rattle.pulldown.specs.Inner.{withPhase, phaseIn};
 
-// A field moved where this part of its blocks is busy, or more, and never with fewer than so many.
+// A field moved where this part of its blocks is busy, or more, and at least `MOVING_LEAST` are.
 const MOVING_PART: u64 = 128;
 
 const MOVING_LEAST: u64 = 4;
 
-// A field repeats where this part of its blocks is busy, or less, and also with so many: a repeat that
-// was encoded anew is not without busy blocks.
+// A field repeats where this part of its blocks is busy, or less, and also where at most `QUIET_MOST` are:
+// a repeat that was encoded anew is not without busy blocks.
 const QUIET_PART: u64 = 1024;
 
 const QUIET_MOST: u64 = 1;

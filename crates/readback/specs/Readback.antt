@@ -5,12 +5,11 @@ use mathlib.Core.Bool.{Bool, cond, _&&_}
 use mathlib.Core.List.{List, [], _∷_}
 use lib.Dec.{leb, eqb}
 use lib.ListN.{length}
-use denote.Ref.{RefT, now}
-use denote.Triple.Both.{Both}
+use denote.Ref.{now}
+use Rattle.laws.specs.Contracts.{Slice}
 use Rattle.laws.specs.Refusal.{lowest, written}
 use Rattle.laws.specs.Rows.{laid, over}
 use Rattle.plane.specs.declared.Shape.{Shape}
-use Rattle.plane.specs.declared.Layout.{Layout}
 use Rattle.plane.specs.declared.Layout.the-variants.{Luma, First, Second}
 use Rattle.plane.specs.Plane.{goodShape, planeBytes, sampleBytes, wordOf, half}
 use Rattle.readback.specs.declared.Readback.{Readback}
@@ -62,9 +61,7 @@ abbrev pub readbackNo : Readback → ℕ → ℕ → ℕ → ℕ → ℕ → ℕ
 readbackNo r luma second third luma-room cb-room cr-room = lowest (readbackTests r luma second third luma-room cb-room cr-room)
 
 -- the same of what a call is lent: three planes, then three outputs
-abbrev pub readbackNoOf :
-    {A B C D E F : Type 0} → Readback → Both (RefT (List ℕ)) A → Both (RefT (List ℕ)) B → Both (RefT (List ℕ)) C → Both (RefT (List ℕ)) D
-    → Both (RefT (List ℕ)) E → Both (RefT (List ℕ)) F → ℕ
+abbrev pub readbackNoOf : {A B C D E F : Type 0} → Readback → Slice A → Slice B → Slice C → Slice D → Slice E → Slice F → ℕ
 readbackNoOf r luma second third out-luma out-cb out-cr =
     readbackNo r (length (now (luma .entry))) (length (now (second .entry))) (length (now (third .entry))) (length (now (out-luma .entry)))
     (length (now (out-cb .entry))) (length (now (out-cr .entry)))

@@ -13,7 +13,7 @@ ghost use lib.Dec.{leb};
 ghost use lib.ListN.{length, getD};
 ghost use Rattle.laws.specs.Rows.{laid, over};
 ghost use Rattle.plane.specs.declared.Layout.the-variants.{Luma};
-ghost use Rattle.plane.specs.Plane.{sampleBytes, goodShape, planeBytes, half};
+ghost use Rattle.plane.specs.Plane.{sampleBytes, goodShape, planeBytes};
 ghost use Rattle.readback.specs.Readback.{lumaShape, shared, cbShape, crShape, crBytes, packedBytes, readbackNo, copiedOf, readbackNoOf, copiedAfter};
 ghost use Rattle.readback.specs.Inner.{kindOf, stepOf, copyIn, RowRoom, PlaneReady};
 ghost use Rattle.readback.specs.declared.Kind.the-variants.{Byte, EverySecondByte, Pair, EverySecondPair};

@@ -2,7 +2,7 @@
 -- the number of frames, which stays below 4,000,000,000. So the machine's totals are those of the definition.
 use Prim.Native.Nat.{ℕ, _+_, _≤_, _<_}
 use native.Mathlib.Omega.{arith}
-use mathlib.Core.Path.{_≡_, refl}
+use mathlib.Core.Path.{_≡_}
 use Rattle.field.specs.declared.Cadence.{Cadence}
 use Rattle.field.specs.declared.Cadence.the-variants.{None, Whole, Drop, Spanning}
 use Rattle.pulldown.proofs.Claims.{one-taken}

@@ -4,17 +4,16 @@ use native.Mathlib.Nat.{le-trans, mul-le-mul}
 use native.Mathlib.Omega.{arith}
 use mathlib.Core.Path.{_≡_, sym}
 use mathlib.Core.Bool.{Bool, true, false, cond, _||_, true≢false}
-use mathlib.Core.List.{List, [], _∷_}
+use mathlib.Core.List.{List}
 use lib.Dec.{eqb, leb}
 use borrow.Author.Tests.{ne-eqb}
-use Rattle.laws.specs.Refusal.{lowest}
-use Rattle.laws.proofs.Refusal.{first-passes, rest-passes}
+use Rattle.laws.specs.Refusal.{lowest, rising}
+use Rattle.laws.proofs.Refusal.{all-pass}
 use Rattle.plane.specs.declared.Shape.{Shape}
 use Rattle.plane.specs.declared.Layout.{Layout}
 use Rattle.plane.specs.declared.Layout.the-variants.{Planar, Luma, First, Second}
 use Rattle.plane.specs.Plane.{components, rowBytes, goodShape, gridShape}
 use Rattle.plane.proofs.Bounds.{good-within}
-use Rattle.entry.specs.Entry.{wordAt}
 use Rattle.reel.specs.declared.Pictured.{Pictured}
 use Rattle.reel.specs.Reel.{shapeIn, shapeTests, picturedIn, noPictured, pictureBytes, pictureCountTests}
 
@@ -44,9 +43,8 @@ good-fine s e =
     all
 
 pub given-fine : (u : List ℕ) → lowest (shapeTests u) ≡ 0 → Fine (picturedIn u)
-given-fine u e given =
-    good-fine (gridShape (shapeIn u))
-    (first-passes 4 (goodShape (gridShape (shapeIn u))) [] (omega arith) (rest-passes 3 (leb (wordAt u 8) 1) ((4, goodShape (gridShape (shapeIn u))) ∷ []) (omega arith) e))
+unfolding rising
+given-fine u e given = good-fine (gridShape (shapeIn u)) (all-pass (shapeTests u) tt e .1 .0)
 
 -- ---- a count of pictures that is not refused
 pub given-if : (b given : Bool) → b ≡ false → (b || given) ≡ true → given ≡ true
@@ -54,6 +52,6 @@ given-if true given e h = absurd (true≢false e)
 given-if false given e h = h
 
 pub some-picture : (p : Pictured) (n : ℕ) → Fine p → lowest (pictureCountTests p n) ≡ 0 → 0 < n → 1 ≤ pictureBytes p
+unfolding rising
 some-picture p n fine e some =
-    fine (given-if (eqb n 0) (p .given) (ne-eqb n 0 (λ z. omega arith))
-    (first-passes 3 (eqb n 0 || p .given) ((7, eqb n 0 || leb (pictureBytes p) 16384) ∷ []) (omega arith) e))
+    fine (given-if (eqb n 0) (p .given) (ne-eqb n 0 (λ z. omega arith)) (all-pass (pictureCountTests p n) tt e .0))

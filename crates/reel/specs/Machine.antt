@@ -56,7 +56,7 @@ wholeOf r k u more = cond (leb k (length u)) more (close r (Fault 6))
 abbrev pub judgedOf : Reel → List (ℕ × Bool) → Next → Next
 judgedOf r tests more = cond (eqb (lowest tests) 0) more (close r (Fault (lowest tests)))
 
--- One more, stopping at the largest number that the struct holds. No reel comes near it.
+-- A count with one more in it. It stops at the largest number that the struct holds, which no reel comes near.
 abbrev pub oneMore : ℕ → ℕ
 oneMore n = min 18446744073709551615 (n + 1)
 

@@ -1,6 +1,6 @@
 -- What a reel file says (docs/RULES.md, "Reel file and listing"): its frames in order, and how it ends, from the bytes alone, section after
 -- section. Any list of bytes whatever says something.
-use Prim.Native.Nat.{ℕ, zero, suc, _+_, _*_, min}
+use Prim.Native.Nat.{ℕ, zero, suc, _+_, _*_}
 use mathlib.Core.Bool.{Bool, true, false, cond, _||_}
 use mathlib.Core.List.{List, [], _∷_}
 use lib.Dec.{eqb, leb}
@@ -26,9 +26,9 @@ use Rattle.reel.specs.declared.Said.the-variants.{Frame, Totals, Fault}
 abbrev pub shapeCountTests : ℕ → List (ℕ × Bool)
 shapeCountTests n = (3, eqb n 0 || eqb n 5) ∷ []
 
--- The numbers are width, height, depth, stride, parity. A depth too large for its place counts as 255, which is out of bounds too.
+-- The numbers are width, height, depth, stride, parity.
 unfoldable pub shapeIn : List ℕ → Grid
-shapeIn u = record { width = wordAt u 0; height = wordAt u 2; depth = min (wordAt u 4) 255; stride = wordAt u 6 }
+shapeIn u = record { width = wordAt u 0; height = wordAt u 2; depth = wordAt u 4; stride = wordAt u 6 }
 
 abbrev pub shapeTests : List ℕ → List (ℕ × Bool)
 shapeTests u = (3, leb (wordAt u 8) 1) ∷ (4, goodShape (gridShape (shapeIn u))) ∷ []

@@ -2,16 +2,18 @@
 // each entry and picture, and the end. A unit says at most one thing, and nothing is written here.
 ghost use mathlib.Core.Path.{_≡_};
 ghost use mathlib.Core.List.{[], _∷_};
-ghost use Prim.Native.Nat.{_<_, min};
+ghost use Prim.Native.Nat.{_<_};
 ghost use lib.Dec.{leb};
 ghost use Rattle.laws.specs.Refusal.{lowest};
 ghost use Rattle.plane.specs.Plane.{goodShape, gridShape};
-ghost use Rattle.reel.specs.Reel.{shapeIn, picturedIn, noPictured, pictureBytes, pictureCountTests, noFrames};
+ghost use Rattle.numbers.specs.Inner.{cutGrid};
+ghost use Rattle.reel.specs.Reel.{shapeIn, noPictured, pictureBytes, pictureCountTests, noFrames};
 ghost use Rattle.reel.specs.Machine.{startOf, wantOf, onTo, close, oneMore, talliedIn, shapeCountOf, shapeNumbersOf, entryCountOf, entryUnitOf, pictureCountOf, pictureUnitOf, pictureStore, endOf, nextOf, storeAfter};
-ghost use Rattle.reel.specs.Inner.{pushedAs};
+ghost use Rattle.reel.specs.Inner.{cutPictured, pushedAs};
 use entry::word_at;
 use field::Cadence;
 use field::Parity;
+use numbers::GridNumbers;
 use plane::Grid;
 use pulldown::Answer;
 use refusal::OUTSIDE;
@@ -66,26 +68,20 @@ pub struct Next {
     pub said: Said,
 }
 
-// A depth too large for its place counts as 255, which no shape may have either.
-fn depth_in(word: u16) -> u8
-    ensures { λ r. ⌜ r ≡ min word 255 ⌝ }
-{
-    if word <= 255 { word as u8 } else { 255 }
-}
-
 fn shape_in(unit: &[u8]) -> Grid
-    ensures { λ r. ⌜ r ≡ shapeIn (now (unit .entry)) ⌝ }
+    ensures { λ r. ⌜ r ≡ cutGrid (shapeIn (now (unit .entry))) ⌝ }
 {
-    Grid {
-        width: word_at(unit, 0),
-        height: word_at(unit, 2),
-        depth: depth_in(word_at(unit, 4)),
+    let given = GridNumbers {
+        width: word_at(unit, 0) as u32,
+        height: word_at(unit, 2) as u32,
+        depth: word_at(unit, 4) as u32,
         stride: word_at(unit, 6) as u32,
-    }
+    };
+    numbers::grid_named(given)
 }
 
 fn pictured_in(unit: &[u8]) -> Pictured
-    ensures { λ r. ⌜ r ≡ picturedIn (now (unit .entry)) ⌝ }
+    ensures { λ r. ⌜ r ≡ cutPictured (now (unit .entry)) ⌝ }
 {
     let shape = shape_in(unit);
     let first = Parity::named(word_at(unit, 8) as u64);

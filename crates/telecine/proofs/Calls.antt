@@ -25,7 +25,6 @@ use Rattle.pulldown.specs.Lock.{pushLock, advanceOf}
 use Rattle.pulldown.specs.Lock as lock
 use Rattle.laws.proofs.Bools.{and-left}
 use Rattle.telecine.specs.declared.Detector.{Detector}
-use Rattle.telecine.specs.declared.Kept.{Kept}
 use Rattle.telecine.specs.declared.Measured.{Measured}
 use Rattle.telecine.specs.Detector.{seenMeasured, lastAfter, measuredDetector, seenPicture, keptAs}
 use Rattle.telecine.specs.Detector.{pushTests, pushNo, pushCadence, pushValues, pushDetector, pushStore}

@@ -15,7 +15,7 @@ use Rattle.pulldown.specs.Lock as lock
 use Rattle.pulldown.proofs.Claims.{answer-settled}
 use Rattle.pulldown.proofs.Claims as lock-proofs
 use Rattle.telecine.specs.Detector.{measuredTests, pushTests}
-use Rattle.telecine.specs.History.{Push, picture, measured, Call, push, reset, State, next, after, numberOf, cadenceOf, lastPicture, lastParity, seenOf, seens, framesOf, runOf, refusalTests, refusalOf, taken}
+use Rattle.telecine.specs.History.{Push, picture, measured, Call, push, reset, State, next, after, numberOf, cadenceOf, lastPicture, lastParity, seenOf, seens, refusalTests, refusalOf, taken}
 use Rattle.telecine.specs.Claims.{ThirdDemand, Runs, RunConsecutive, RefusalKnown, RefusalSays, PushSays, MeasuredSays, RefusedLeaves, RefusedCountsNothing}
 use Rattle.telecine.specs.Claims.{LockedSays, PredictSays, ResetForgets, ResetIsFresh, PushedSettled}
 use Rattle.telecine.proofs.Reached.{few-before, number-known, cadence-known, any-reached}

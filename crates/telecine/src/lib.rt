@@ -216,11 +216,11 @@ impl Detector {
         let old = self.lock;
         let lock = old.reset();
         let kept = fresh.kept;
-        let last = self.last;
+        let remembered = self.last;
         Detector {
             lock: lock,
             kept: kept,
-            last: last,
+            last: remembered,
         }
     }
 

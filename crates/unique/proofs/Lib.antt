@@ -25,7 +25,6 @@ pub mod Readback
 pub mod Reel
 pub mod Refusal
 pub mod Samples
-pub mod Scanline
 pub mod Telecine
 pub mod Weave
 pub mod Weavedesk

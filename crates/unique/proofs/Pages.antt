@@ -1,6 +1,8 @@
 -- Nothing else would satisfy a contract of `pages`.
 use mathlib.Core.Path.{refl}
 use denote.Ref.{now}
+use Rattle.pages.proofs.least.Kinds as least-kinds
+use Rattle.pages.proofs.least.Reads as least
 use Rattle.pages.proofs.Held.nothing.Kinds as nothing-kinds
 use Rattle.pages.proofs.Held.nothing.Reads as nothing
 use Rattle.pages.proofs.Held.count.Kinds as count-kinds
@@ -19,6 +21,9 @@ use Rattle.pages.proofs.next.Kinds as next-kinds
 use Rattle.pages.proofs.next.Reads as next
 use Rattle.unique.specs.Unique.{OneAnswer, OneContent}
 use Rattle.unique.proofs.Law.{same, _and_, once}
+
+pub least-once : OneAnswer 0 least-kinds.ps least-kinds.r least.Post
+least-once κs a x y u v p q = (same p q, refl)
 
 pub nothing-once : OneAnswer 0 nothing-kinds.ps nothing-kinds.r nothing.Post
 nothing-once κs a x y u v p q = (same p q, refl)

@@ -15,8 +15,8 @@ use Rattle.pulldown.proofs.Lock.push.Kinds as push-kinds
 use Rattle.pulldown.proofs.Lock.push.Reads as push
 use Rattle.pulldown.proofs.Lock.predict.Kinds as predict-kinds
 use Rattle.pulldown.proofs.Lock.predict.Reads as predict
-use Rattle.pulldown.proofs.code_of.Kinds as code-of-kinds
-use Rattle.pulldown.proofs.code_of.Reads as code-of
+use Rattle.pulldown.proofs.seen_code.Kinds as seen-code-kinds
+use Rattle.pulldown.proofs.seen_code.Reads as seen-code
 use Rattle.pulldown.proofs.cadences_of.Kinds as cadences-of-kinds
 use Rattle.pulldown.proofs.cadences_of.Reads as cadences-of
 use Rattle.unique.specs.Unique.{OneAnswer}
@@ -29,17 +29,9 @@ pub push-apart-once : OneAnswer 1 push-apart-kinds.ps push-apart-kinds.r push-ap
 push-apart-once =
     once 1 push-apart-kinds.ps push-apart-kinds.r push-apart.Post
     (λ κs a x y s t p q.
-    let lock = same (p .0) (q .0) in
     λ i. record {
-      course = record {
-        next = lock i .next;
-        held = lock i .held;
-        taken = lock i .taken;
-        phase = lock i .phase;
-        since = lock i .since;
-        stills = lock i .stills;
-      };
-      answer = answer-settled (x .answer) (y .answer) (same (p .1) (q .1)) (same (p .2) (q .2)) i;
+      course = same (p .0) (q .0) i .course;
+      answer = answer-settled (x .answer) (y .answer) (same (p .1 .0) (q .1 .0)) (same (p .1 .1) (q .1 .1)) i;
     })
     (λ κs a x u v p q. (λ i. same (p .0) (q .0) i .ring) and refl)
 
@@ -59,8 +51,8 @@ push-once κs a x y u v p q =
 pub predict-once : OneAnswer 0 predict-kinds.ps predict-kinds.r predict.Post
 predict-once κs a x y u v p q = (answer-settled x y (same (p .0) (q .0)) (same (p .1) (q .1)), refl)
 
-pub code-of-once : OneAnswer 0 code-of-kinds.ps code-of-kinds.r code-of.Post
-code-of-once κs a x y u v p q = (same p q, refl)
+pub seen-code-once : OneAnswer 0 seen-code-kinds.ps seen-code-kinds.r seen-code.Post
+seen-code-once κs a x y u v p q = (same p q, refl)
 
 pub cadences-of-once : OneAnswer 1 cadences-of-kinds.ps cadences-of-kinds.r cadences-of.Post
 cadences-of-once =

@@ -4,8 +4,8 @@ use mathlib.Core.Bool.{Bool, true, false, cond, _&&_}
 use mathlib.Core.List.{List, [], _∷_}
 use lib.Dec.{leb, ltb, eqb}
 use lib.ListN.{length, take, drop}
-use denote.Ref.{RefT, now}
-use denote.Triple.Both.{Both}
+use denote.Ref.{now}
+use Rattle.laws.specs.Contracts.{Slice}
 use Rattle.laws.specs.Refusal.{lowest, written}
 use Rattle.laws.specs.Rows.{laid, over}
 use Rattle.plane.specs.declared.Grid.{Grid}
@@ -34,7 +34,7 @@ abbrev pub givenOf : Field → List ℕ → List ℕ → List ℕ → Given
 givenOf shape luma cb cr = record { shape = shape; luma = luma; cb = cb; cr = cr }
 
 -- the same as a call finds it: bytes are read at entry
-abbrev pub lentField : {A B C : Type 0} → Field → Both (RefT (List ℕ)) A → Both (RefT (List ℕ)) B → Both (RefT (List ℕ)) C → Given
+abbrev pub lentField : {A B C : Type 0} → Field → Slice A → Slice B → Slice C → Given
 lentField shape luma cb cr = givenOf shape (now (luma .entry)) (now (cb .entry)) (now (cr .entry))
 
 -- ---- lines
@@ -100,7 +100,7 @@ abbrev pub weaveNo : Given → Given → ℕ → ℕ → ℕ → ℕ
 weaveNo top bottom luma-room cb-room cr-room = lowest (weaveTests top bottom luma-room cb-room cr-room)
 
 -- the same of three outputs that are lent
-abbrev pub weaveNoOf : {A B C : Type 0} → Given → Given → Both (RefT (List ℕ)) A → Both (RefT (List ℕ)) B → Both (RefT (List ℕ)) C → ℕ
+abbrev pub weaveNoOf : {A B C : Type 0} → Given → Given → Slice A → Slice B → Slice C → ℕ
 weaveNoOf top bottom luma cb cr = weaveNo top bottom (length (now (luma .entry))) (length (now (cb .entry))) (length (now (cr .entry)))
 
 -- what an output holds after a call that gets this number
@@ -122,11 +122,11 @@ abbrev pub lineNo : Grid → ℕ → Grid → ℕ → ℕ → ℕ
 lineNo t top-bytes b bottom-bytes y = lowest (lineTests t top-bytes b bottom-bytes y)
 
 -- A line that is handed out, and where it stands: a line that is refused is empty, at the front of the top field.
-abbrev pub lineGiven : {A B : Type 0} → Both (RefT (List ℕ)) A → Grid → Both (RefT (List ℕ)) B → Grid → ℕ → List ℕ
+abbrev pub lineGiven : {A B : Type 0} → Slice A → Grid → Slice B → Grid → ℕ → List ℕ
 lineGiven top t bottom b y =
     written (lineNo t (length (now (top .entry))) b (length (now (bottom .entry))) y) (wovenLine (now (top .entry)) t (now (bottom .entry)) b y) []
 
-abbrev pub placeGiven : {A B : Type 0} → Both (RefT (List ℕ)) A → Grid → Both (RefT (List ℕ)) B → Grid → ℕ → ℕ × ℕ
+abbrev pub placeGiven : {A B : Type 0} → Slice A → Grid → Slice B → Grid → ℕ → ℕ × ℕ
 placeGiven top t bottom b y =
     written (lineNo t (length (now (top .entry))) b (length (now (bottom .entry))) y) (linePlace (top .entry .ptr) t (bottom .entry .ptr) b y)
     (top .entry .ptr)

@@ -17,7 +17,7 @@ use Rattle.weaver.proofs.Claims as weaver
 use Rattle.weavedesk.specs.Push.{Lent, Offer, newNo, clearNo, pushTests, pushNo, lumaAfter, cbAfter, crAfter, pictureNumber, timedNumber, timeNumber}
 use Rattle.weavedesk.specs.History.{Call, new, push, clear, after, fieldMeant, codesNamed, callsOf, timedOf, timeOf}
 use Rattle.weavedesk.specs.Claims.{Gives, PairsWoven, RefusalKnown, RefusedLeaves, PlacesStay, TooShort}
-use Rattle.weavedesk.proofs.Held.{heldIn, number-same, alone-fails, Follows, follows}
+use Rattle.weavedesk.proofs.Carried.{stateIn, number-same, alone-fails, Follows, follows}
 
 -- ---- what a field gets
 timed-one : (t : Time) → timedNumber (t ∷ []) ≡ timedOf t
@@ -28,8 +28,8 @@ time-one : (t : Time) → timeNumber (t ∷ []) ≡ timeOf t
 time-one time.Absent = refl
 time-one (time.At at) = refl
 
-module _ (l : Lent) (o : Offer) (done : pushNo l o ≡ 0) (number : pushNo l o ≡ calls.numberIn (heldIn l) (fieldMeant o)) where
-  gives : (w : calls.Waiting) → claims.Gives w (heldIn l) (fieldMeant o) → Gives w l o
+module _ (l : Lent) (o : Offer) (done : pushNo l o ≡ 0) (number : pushNo l o ≡ calls.numberIn (stateIn l) (fieldMeant o)) where
+  gives : (w : calls.Waiting) → claims.Gives w (stateIn l) (fieldMeant o) → Gives w l o
   gives calls.none g = record {
     picture = λ old. (λ i. written (done i) (pictureNumber (g .times i)) old);
     timed = λ old. (λ i. written (done i) (timedNumber (g .times i)) old);
@@ -61,18 +61,18 @@ module _ (state store : List ℕ) (o : Offer) (earlier : List Call) (room : 56 �
   pairs : pushNo l o ≡ 0 → Gives (mate (length store)) l o
   unfolding rising
   pairs done =
-      let number = number-same l (f .held .room) o (all-pass (pushTests l o) tt done .0) in
-      let taken = subst (λ (s : calls.State). calls.numberIn s (fieldMeant o) ≡ 0) (f .held .same) (sym number ∙ done) in
+      let number = number-same l (f .carries .room) o (all-pass (pushTests l o) tt done .0) in
+      let taken = subst (λ (s : calls.State). calls.numberIn s (fieldMeant o) ≡ 0) (f .carries .same) (sym number ∙ done) in
       let said = weaver.pairs-woven (f .found) (fieldMeant o) (callsOf earlier) taken in
-      let here = subst (λ (s : calls.State). claims.Gives (mate (length (f .found))) s (fieldMeant o)) (sym (f .held .same)) said in
+      let here = subst (λ (s : calls.State). claims.Gives (mate (length (f .found))) s (fieldMeant o)) (sym (f .carries .same)) said in
       subst (λ (n : ℕ). Gives (mate n) l o) (f .long) (gives l o done number (mate (length (f .found))) here)
 
   -- the number, where the codes name something and where they do not
   known-named :
       codesNamed o ≡ true → pushNo l o ≡ lowest (calls.refusalTests (length store) (fieldMeant o) (calls.taken (length store) (callsOf earlier)))
   known-named e =
-      number-same l (f .held .room) o e
-      ∙ ap (λ (s : calls.State). calls.numberIn s (fieldMeant o)) (f .held .same)
+      number-same l (f .carries .room) o e
+      ∙ ap (λ (s : calls.State). calls.numberIn s (fieldMeant o)) (f .carries .same)
       ∙ weaver.refusal-known (f .found) (fieldMeant o) (callsOf earlier)
       ∙ ap (λ (n : ℕ). calls.refusalOf n (fieldMeant o) (calls.taken n (callsOf earlier))) (f .long)
 

@@ -2,7 +2,7 @@
 -- signature in their order, comes to the number, the places and the lists that History and Push give. So a contract that means other parameters is
 -- refused here, though its code meet it.
 use Prim.Native.Nat.{ℕ}
-use mathlib.Core.Path.{_≡_, refl, ap, _∙_}
+use mathlib.Core.Path.{_≡_, ap, _∙_}
 use mathlib.Core.List.{List}
 use lib.ListN.{length}
 use contract.Lifetimes.{Lfts}

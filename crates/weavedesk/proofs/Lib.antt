@@ -5,7 +5,7 @@ pub mod Times
 pub mod Kept
 pub mod Push
 pub mod States
-pub mod Held
+pub mod Carried
 pub mod Demand
 pub mod Door
 pub mod Claims

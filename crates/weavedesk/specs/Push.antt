@@ -6,8 +6,8 @@ use mathlib.Core.List.{List, [], _∷_}
 use lib.Dec.{leb, eqb}
 use lib.IntN.{ℤ, pos}
 use lib.ListN.{length}
-use denote.Ref.{RefT, now}
-use denote.Triple.Both.{Both}
+use denote.Ref.{now}
+use Rattle.laws.specs.Contracts.{Slice}
 use Rattle.laws.specs.Refusal.{lowest, written}
 use Rattle.field.specs.declared.Parity.{Parity}
 use Rattle.field.specs.Field.{parityNamed}
@@ -41,12 +41,10 @@ pub record Offer : Type 0 where
   pub cr-room : ℕ
 
 -- both as an export finds them: bytes are read at entry
-abbrev pub lent : {A B : Type 0} → Both (RefT (List ℕ)) A → Both (RefT (List ℕ)) B → Lent
+abbrev pub lent : {A B : Type 0} → Slice A → Slice B → Lent
 lent state store = record { state = now (state .entry); store = now (store .entry) }
 
-abbrev pub offer :
-    {A B C D E F : Type 0} → ℕ → ℕ → ℤ → FieldNumbers → Both (RefT (List ℕ)) A → Both (RefT (List ℕ)) B → Both (RefT (List ℕ)) C
-    → Both (RefT (List ℕ)) D → Both (RefT (List ℕ)) E → Both (RefT (List ℕ)) F → Offer
+abbrev pub offer : {A B C D E F : Type 0} → ℕ → ℕ → ℤ → FieldNumbers → Slice A → Slice B → Slice C → Slice D → Slice E → Slice F → Offer
 offer parity timed at shape luma cb cr out-luma out-cb out-cr = record {
   parity = parity;
   timed = timed;

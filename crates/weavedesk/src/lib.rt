@@ -10,9 +10,8 @@ use weaver::Time;
 use weaver::Weaver;
 ghost use mathlib.Core.Path.{_≡_};
 ghost use mathlib.Core.List.{[], _∷_};
-ghost use Prim.Native.Nat.{_%_, _≤_};
+ghost use Prim.Native.Nat.{_≤_};
 ghost use lib.ListN.{length};
-ghost use Rattle.field.specs.Field.{parityNamed};
 ghost use Rattle.numbers.specs.Numbers.{gridNamed};
 ghost use Rattle.weave.specs.Weave.{lentField, weaveNoOf, wovenAfter, lineNo, wovenFormat};
 ghost use Rattle.readback.specs.Readback.{lumaShape, cbShape, crShape, crBytes, readbackNoOf, copiedAfter};
@@ -22,7 +21,7 @@ ghost use Rattle.weavedesk.specs.Waiting.{keeping, weaverIn, weaverNumbe
 ghost use Rattle.weavedesk.specs.Push.{lent, offer, newNo, clearNo, emptied, timeNamed, pushNo, stateAfter, storeAfter, lumaAfter, cbAfter, crAfter, pictureNumber, timedNumber, timeNumber, pictureAfter, timedAfter, timeAfter};
 ghost use Rattle.weavedesk.specs.Inner.{fieldCut, readbackCut, timesIn};
 
-// The three planes of a field, whose lines are at most 2,176.
+// The three planes of a field, which has at most 2,176 lines.
 #[repr(C)]
 pub struct FieldNumbers {
     pub luma: GridNumbers,
@@ -142,29 +141,6 @@ fn readback_cut(n: ReadbackNumbers) -> readback::Readback
 
 const STATE_BYTES: usize = 56;
 
-// 0 is top, and every other number bottom, so that all bytes are some weaver.
-fn parity_in(number: u64) -> Parity
-    ensures { λ r. ⌜ r ≡ parityNamed number ⌝ }
-{
-    if number == 0 {
-        Parity::Top
-    } else {
-        Parity::Bottom
-    }
-}
-
-fn byte_in(number: u64) -> u8
-    ensures { λ r. ⌜ r ≡ number % 256 ⌝ }
-{
-    (number % 256) as u8
-}
-
-fn size_in(number: u64) -> u16
-    ensures { λ r. ⌜ r ≡ number % 65536 ⌝ }
-{
-    (number % 65536) as u16
-}
-
 fn time_in(kind: u64, size: u64) -> Time
     ensures { λ r. ⌜ r ≡ timeOf kind size ⌝ }
 {
@@ -179,14 +155,15 @@ fn time_in(kind: u64, size: u64) -> Time
     }
 }
 
+// Of a parity 0 is top, and every other number bottom, so that all bytes are some weaver.
 fn weaver_in(state: &[u8]) -> Weaver
     ensures { λ r. ⌜ r ≡ weaverIn (now (state .entry)) ⌝ }
 {
     let held = packed::number_at(state, 0) != 0;
-    let width = size_in(packed::number_at(state, 1));
-    let height = size_in(packed::number_at(state, 2));
-    let depth = byte_in(packed::number_at(state, 3));
-    let parity = parity_in(packed::number_at(state, 4));
+    let width = packed::size_in(packed::number_at(state, 1));
+    let height = packed::size_in(packed::number_at(state, 2));
+    let depth = packed::byte_in(packed::number_at(state, 3));
+    let parity = Parity::named(packed::number_at(state, 4));
     let time = time_in(packed::number_at(state, 5), packed::number_at(state, 6));
     Weaver {
         held: held,

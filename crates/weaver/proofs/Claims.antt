@@ -1,5 +1,5 @@
 -- The claims of specs/Claims.antt.
-use Prim.Native.Nat.{ℕ, _+_}
+use Prim.Native.Nat.{ℕ}
 use mathlib.Core.Path.{_≡_, refl, sym, ap, _∙_}
 use mathlib.Core.Bool.{Bool, true, false, cond}
 use mathlib.Core.List.{List, [], _∷_, _++_, nil≢cons}
@@ -22,8 +22,8 @@ use Rattle.weaver.specs.Claims.{PushSays, OnePaired, RefusedLeaves, Refu
 use Rattle.weaver.proofs.Packed.{Sound}
 use Rattle.weaver.proofs.Judged.{sound}
 use Rattle.weaver.proofs.Kept.{luma-woven, cb-woven, cr-woven}
-use Rattle.weaver.proofs.Held.{weaverBy, packedBy, Held, fits-known, number-known, tests, any-held}
-use Rattle.weaver.proofs.Held as held
+use Rattle.weaver.proofs.Reached.{weaverBy, packedBy, Reached, fits-known, number-known, tests, any-reached}
+use Rattle.weaver.proofs.Reached as reached
 
 -- ---- one call
 pub push-says : PushSays
@@ -51,12 +51,12 @@ one-paired (paired.Refused n) (paired.Picture at) number values = absurd (nil≢
 one-paired (paired.Refused n) (paired.Refused m) number values = ap (λ (k : ℕ). paired.Refused k) number
 
 pub refused-leaves : RefusedLeaves
-refused-leaves = held.refused-leaves
+refused-leaves = reached.refused-leaves
 
 -- ---- over calls
 pub refusal-known : RefusalKnown
 refusal-known store f earlier =
-    number-known (length store) (after store earlier) (waitingAfter (taken (length store) earlier)) (any-held store earlier) f
+    number-known (length store) (after store earlier) (waitingAfter (taken (length store) earlier)) (any-reached store earlier) f
 
 -- what an output holds without a picture, and with one
 module _ (n : ℕ) (w : Weaver) (shape : Field) (parity : Parity) (plane out : List ℕ) (z : n ≡ 0) where
@@ -79,7 +79,7 @@ no-picture state f e z =
     }
 
 -- a field with a mate
-module _ (room : ℕ) (state : State) (first f : Sent) (h : Held room state (waits first)) (m : mates first f ≡ true) (z : numberIn state f ≡ 0) where
+module _ (room : ℕ) (state : State) (first f : Sent) (h : Reached room state (waits first)) (m : mates first f ≡ true) (z : numberIn state f ≡ 0) where
   fit : fits (state .weaver) (f .field .shape) (f .parity) ≡ true
   fit = fits-known room state (waits first) h f ∙ m
 
@@ -126,15 +126,15 @@ module _ (room : ℕ) (state : State) (first f : Sent) (h : Held room state (wai
       }
 
 gives-if :
-    (room : ℕ) (state : State) (first f : Sent) → Held room state (waits first) → numberIn state f ≡ 0 → (t : Bool) → mates first f ≡ t
+    (room : ℕ) (state : State) (first f : Sent) → Reached room state (waits first) → numberIn state f ≡ 0 → (t : Bool) → mates first f ≡ t
     → Gives (cond t (waits first) none) state f
 gives-if room state first f h z true e = picture room state first f h e z
 gives-if room state first f h z false e = no-picture state f (fits-known room state (waits first) h f ∙ e) z
 
-gives : (room : ℕ) (state : State) (w : Waiting) (f : Sent) → Held room state w → numberIn state f ≡ 0 → Gives (mateOf w f) state f
+gives : (room : ℕ) (state : State) (w : Waiting) (f : Sent) → Reached room state w → numberIn state f ≡ 0 → Gives (mateOf w f) state f
 gives room state none f h z = no-picture state f (fits-known room state none h f) z
 gives room state (waits first) f h z = gives-if room state first f h z (mates first f) refl
 
 pub pairs-woven : PairsWoven
 pairs-woven store f earlier z =
-    gives (length store) (after store earlier) (waitingAfter (taken (length store) earlier)) f (any-held store earlier) z
+    gives (length store) (after store earlier) (waitingAfter (taken (length store) earlier)) f (any-reached store earlier) z

@@ -3,5 +3,5 @@ pub mod Packed
 pub mod Judged
 pub mod Calls
 pub mod Kept
-pub mod Held
+pub mod Reached
 pub mod Claims

@@ -4,6 +4,7 @@ use mathlib.Core.Path.{_≡_}
 use mathlib.Core.Bool.{Bool, true, cond, _&&_}
 use mathlib.Core.List.{List, [], _∷_}
 use lib.Dec.{leb}
+use lib.ListN.{length}
 use denote.Ref.{RefT, now}
 use Rattle.plane.specs.Plane.{gridShape, planeBytes}
 use Rattle.plane.specs.declared.Grid.{Grid}
@@ -45,3 +46,7 @@ pub record PackableField (store : ℕ) (g : Given) : Type 0 where
 pub record Weavable (first second : Given) (luma-room cb-room cr-room : ℕ) : Type 0 where
   pub as-top : weaveNo first second luma-room cb-room cr-room ≡ 0
   pub as-bottom : weaveNo second first luma-room cb-room cr-room ≡ 0
+
+-- into these outputs
+abbrev pub WeavableInto : Given → Given → RefT (List ℕ) → RefT (List ℕ) → RefT (List ℕ) → Type 0
+WeavableInto first second luma cb cr = Weavable first second (length (now luma)) (length (now cb)) (length (now cr))

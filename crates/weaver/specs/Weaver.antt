@@ -5,8 +5,8 @@ use mathlib.Core.Bool.{Bool, true, false, cond, not, _&&_}
 use mathlib.Core.List.{List, [], _∷_, _++_}
 use lib.Dec.{leb, eqb}
 use lib.ListN.{length, take, drop}
-use denote.Ref.{RefT, now}
-use denote.Triple.Both.{Both}
+use denote.Ref.{now}
+use Rattle.laws.specs.Contracts.{Slice}
 use Rattle.laws.specs.Refusal.{lowest, written}
 use Rattle.laws.specs.Rows.{laid, over}
 use Rattle.field.specs.declared.Parity.{Parity}
@@ -102,8 +102,7 @@ abbrev pub pushNo : Weaver → Given → Parity → ℕ → ℕ → ℕ → ℕ 
 pushNo w g parity store luma-room cb-room cr-room = lowest (pushTests w g parity store luma-room cb-room cr-room)
 
 -- the same of a store and three outputs that are lent
-abbrev pub pushNoOf :
-    {A B C D : Type 0} → Weaver → Given → Parity → Both (RefT (List ℕ)) A → Both (RefT (List ℕ)) B → Both (RefT (List ℕ)) C → Both (RefT (List ℕ)) D → ℕ
+abbrev pub pushNoOf : {A B C D : Type 0} → Weaver → Given → Parity → Slice A → Slice B → Slice C → Slice D → ℕ
 pushNoOf w g parity store luma cb cr =
     pushNo w g parity (length (now (store .entry))) (length (now (luma .entry))) (length (now (cb .entry))) (length (now (cr .entry)))
 

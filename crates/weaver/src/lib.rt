@@ -13,10 +13,10 @@ ghost use lib.Dec.{leb};
 ghost use lib.ListN.{length, take, drop};
 ghost use Rattle.laws.specs.Refusal.{lowest, whenDone};
 ghost use Rattle.laws.specs.Rows.{over};
-ghost use Rattle.plane.specs.Plane.{sampleBytes, half};
+ghost use Rattle.plane.specs.Plane.{sampleBytes};
 ghost use Rattle.weave.specs.Weave.{lentField, roomFor};
 ghost use Rattle.weaver.specs.Weaver.{packedLines, packedShape, packedPlane, packedField, lumaBytes, chromaBytes, fieldBytes, emptyWeaver, keptField, keptBytes, opposite, fits, wovenBy, pushNoOf, pictureTimes, pictureLuma, pictureCb, pictureCr, pushWeaver, pushStore, pushOut, pairedNo, pairedValues};
-ghost use Rattle.weaver.specs.Inner.{testsOf, foundField, Packable, PackableField, Weavable};
+ghost use Rattle.weaver.specs.Inner.{testsOf, foundField, Packable, PackableField, WeavableInto};
 use field::Parity;
 use plane::Grid;
 use weave::Field;
@@ -234,7 +234,7 @@ fn weave_pair(
     out_cb: &mut [u8],
     out_cr: &mut [u8],
 )
-    requires { ⌜ Weavable (foundField first «first_luma» «first_cb» «first_cr») (foundField second «second_luma» «second_cb» «second_cr») (length (now «out_luma»)) (length (now «out_cb»)) (length (now «out_cr»)) ⌝ }
+    requires { ⌜ WeavableInto (foundField first «first_luma» «first_cb» «first_cr») (foundField second «second_luma» «second_cb» «second_cr») «out_luma» «out_cb» «out_cr» ⌝ }
     ensures { λ _. ⌜ now («out_luma» .exit) ≡ over (wovenBy parity (now («first_luma» .entry)) (first .luma) (now («second_luma» .entry)) (second .luma)) (now («out_luma» .entry)) ⌝ }
     ensures { λ _. ⌜ now («out_cb» .exit) ≡ over (wovenBy parity (now («first_cb» .entry)) (first .cb) (now («second_cb» .entry)) (second .cb)) (now («out_cb» .entry)) ⌝ }
     ensures { λ _. ⌜ now («out_cr» .exit) ≡ over (wovenBy parity (now («first_cr» .entry)) (first .cr) (now («second_cr» .entry)) (second .cr)) (now («out_cr» .entry)) ⌝ }
@@ -285,7 +285,7 @@ fn weave_kept(
     out_cb: &mut [u8],
     out_cr: &mut [u8],
 )
-    requires { ⌜ Weavable (keptField kept (now store)) (foundField shape luma cb cr) (length (now «out_luma»)) (length (now «out_cb»)) (length (now «out_cr»)) ⌝ }
+    requires { ⌜ WeavableInto (keptField kept (now store)) (foundField shape luma cb cr) «out_luma» «out_cb» «out_cr» ⌝ }
     requires { ⌜ fieldBytes (kept .width) (kept .height) (kept .depth) ≤ length (now store) ⌝ }
     ensures { λ _. ⌜ now («out_luma» .exit) ≡ over (pictureLuma kept (now (store .entry)) (lentField shape luma cb cr)) (now («out_luma» .entry)) ⌝ }
     ensures { λ _. ⌜ now («out_cb» .exit) ≡ over (pictureCb kept (now (store .entry)) (lentField shape luma cb cr)) (now («out_cb» .entry)) ⌝ }

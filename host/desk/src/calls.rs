@@ -80,7 +80,7 @@ pub struct FrameNumbers {
     pub cr: PlaneNumbers,
 }
 
-/// The three planes of a field, whose lines are at most 2,176.
+/// The three planes of a field, which has at most 2,176 lines.
 #[repr(C)]
 #[derive(Debug, Clone, Copy, PartialEq, Eq)]
 pub struct FieldNumbers {

@@ -29,7 +29,7 @@ part-result-end c = search needs
 returns : tie.Need-returns
 returns c =
     let a = c .before .before .before .args in
-    used (a .n) (a .page .now) (c .before .least .result) (c .before .least .ensures .0)
+    used (a .n) (a .page .now) (c .before .least .result) (c .before .least .ensures)
 
 pub front-spec : {M : Type 1} → statement M
 front-spec = tie.close (tie.spec least-requires sub-result part-result-start part-result-end returns)

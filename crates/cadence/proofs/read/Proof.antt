@@ -1,4 +1,4 @@
-use Prim.Native.Nat.{_-_}
+use Prim.Native.Nat.{_-_, _≤_}
 use native.Mathlib.Omega.{arith}
 use mathlib.Core.Path.{sym}
 use lib.ListN.{length}
@@ -39,7 +39,10 @@ returns c =
     let called = c .before .before .before .before .before .before .before in
     let start = called .before .before .before .least in
     let buffer = called .before .before .before .before .before .args .buffer .now in
-    (omega (arith, c .before .before .count .ensures .0 .0, called .read .kept .1 .0, start .ensures .0), rw (sym (start .ensures .0)) (take-put (start .result) (length buffer - start .result) buffer (called .read .last .1 .0) (start .ensures .1)))
+    let within : start .result ≤ length buffer = omega (arith, start .ensures) in (
+      omega (arith, c .before .before .count .ensures .0 .0, called .read .kept .1 .0, start .ensures),
+      rw (sym (start .ensures)) (take-put (start .result) (length buffer - start .result) buffer (called .read .last .1 .0) within),
+    )
 
 pub read-spec : {M : Type 1} → statement M
 read-spec =

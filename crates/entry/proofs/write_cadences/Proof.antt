@@ -1,4 +1,4 @@
--- `entry::write_cadences` meets its contract: what the codes give is what the entries give.
+-- What the codes give is what the entries give.
 use denote.Ref.{now}
 use borrow.Author.Needs.{needs}
 use Rattle.entry.proofs.Entries.{all-written}

@@ -7,7 +7,7 @@ use lib.ListN.{length, length-set}
 use denote.Ref.{now}
 use Rattle.laws.proofs.Lists.{Filled, fill-starts, fills, fill-ends}
 use Rattle.plane.specs.Plane.{valueOf}
-use Rattle.filter.specs.Filter.{Sampler, one, three, halfF, cubicOf, edgeOf, inMotionOf, farOf, bwdifOf}
+use Rattle.filter.specs.Filter.{Sampler, three, cubicOf, edgeOf, inMotionOf, farOf, bwdifOf}
 use Rattle.fill.specs.Rows.{Around, Motion}
 use Rattle.fill.specs.declared.Pick.{Pick}
 use Rattle.fill.proofs.Expanded.{motion-stays}

@@ -1,12 +1,9 @@
 use mathlib.Core.Path.{_≡_, sym, _∙_}
 use mathlib.Core.List.{List}
-use Prim.Native.Nat.{_+_}
 use borrow.Author.Needs.{needs}
-use lib.IntN.{pos}
 use lib.ListN.{length}
 use lib.Ieee.{Float}
 use denote.Ref.{now}
-use Rattle.laws.specs.Rows.{listed}
 use Rattle.plane.specs.Plane.{valueOf}
 use Rattle.filter.specs.declared.Quality.{Quality}
 use Rattle.filter.specs.declared.Quality.the-variants.{Weave, Bob, Yadif, Bwdif}

@@ -7,7 +7,7 @@ use lib.ListN.{length, length-set}
 use denote.Ref.{now}
 use Rattle.laws.proofs.Lists.{Filled, fill-starts, fills, fill-ends}
 use Rattle.plane.specs.Plane.{valueOf}
-use Rattle.filter.specs.Filter.{Sampler, one, three, halfF, cubicOf, edgeOf, inMotionOf, yadifOf}
+use Rattle.filter.specs.Filter.{Sampler, one, halfF, edgeOf, inMotionOf, yadifOf}
 use Rattle.fill.specs.Rows.{Motion}
 use lib.Ieee.{binary32, mul}
 use Rattle.fill.specs.declared.Pick.{Pick}

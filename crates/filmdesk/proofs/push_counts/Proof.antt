@@ -1,13 +1,15 @@
+use Prim.Native.Nat.{ℕ}
 use mathlib.Core.Path.{_≡_, refl, sym, ap, _∙_}
 use lib.ListN.{length}
 use denote.Ref.{now}
 use borrow.Author.Needs.{needs}
-use Rattle.laws.specs.Refusal.{whenDone}
+use Rattle.laws.specs.Refusal.{whenDone, written}
 use Rattle.laws.proofs.Refusal.{Tells, told-number, told-nothing}
+use Rattle.field.specs.declared.Chosen.the-variants as chosen
 use Rattle.pulldown.specs.declared.Lock.{Lock}
 use Rattle.pulldown.specs.Lock.{answerNo, answerValues, pushNo, pushCadence, pushLock, lockWith}
 use Rattle.telecine.specs.declared.Detector.{Detector}
-use Rattle.telecine.specs.Detector.{seenMeasured, lastAfter, measuredNo, measuredCadence}
+use Rattle.telecine.specs.Detector.{seenMeasured, measuredNo, measuredCadence}
 use Rattle.telecine.proofs.Calls.{measured-left}
 use Rattle.filmdesk.specs.Kept.{detectorIn, keeping}
 use Rattle.filmdesk.specs.Inner.{detectorWith}
@@ -80,14 +82,15 @@ returns c =
     let k = known .before .before .before in
     let a = k .before .before .before .before .before .before .before .before .before .before .before .before .args in
     let d = detectorIn (now (a .state)) in
-    let h = answered k in (
-      told-number h (known .answer .given .1),
+    let h = answered k in
+    let number = told-number h (known .answer .given .1) in (
+      number,
       (
         sym (ap answerValues (known .answer .given .1)) ∙ h .values-are,
         c .before .before .keep-apart .ensures
             ∙ ap (λ (d : Detector). keeping d (now (a .state)))
-            ((λ i. detectorWith (k .step .last .0) (k .step .result .course) (k .before .before .before .before .before .kept-in .ensures i) (k .step .result .last))
-            ∙ measured-left d (a .first) (a .measured) refl (handed-back k) (k .step .ensures .1 .0 ∙ (λ i. lastAfter (lock-read k i) (k .before .before .before .last-in .ensures i) (a .first)))),
+            ((λ i. detectorWith (k .step .last .0) (k .step .result .course) (k .before .before .before .before .before .kept-in .ensures i) (chosen.Field (a .first)))
+            ∙ measured-left d (a .first) (a .measured) refl (handed-back k) (ap (λ (n : ℕ). written n (chosen.Field (a .first)) (d .last)) number)),
       ),
     )
 

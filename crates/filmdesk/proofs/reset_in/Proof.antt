@@ -1,4 +1,4 @@
--- `filmdesk::reset_in` meets its contract: a reset looks at the last parity alone.
+-- A reset looks at the last parity alone.
 use mathlib.Core.Path.{ap, _∙_}
 use borrow.Author.Needs.{needs}
 use Rattle.telecine.specs.Detector.{resetOf}

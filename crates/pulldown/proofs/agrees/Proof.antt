@@ -1,4 +1,4 @@
--- `pulldown::agrees` meets its contract: the laws of its walk through the ring are in Walk.
+-- The laws of the walk through the ring are in Walk.
 use Prim.Native.Nat.{_+_, _<_, _≤_}
 use mathlib.Core.Path.{sym, _∙_}
 use native.Mathlib.Omega.{arith}

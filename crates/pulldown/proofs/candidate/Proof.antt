@@ -1,4 +1,4 @@
--- `pulldown::candidate` meets its contract: no phase below the one that is tried agrees.
+-- No phase below the one that is tried agrees.
 use Prim.Native.Nat.{_-_}
 use mathlib.Core.Path.{sym, _∙_}
 use borrow.Author.Count.{below-none, below-more}

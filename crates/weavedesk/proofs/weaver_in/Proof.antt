@@ -32,8 +32,8 @@ byte-in-requires c κs = search needs
 number-at-requires-5 : tie.Need-number-at-requires-5
 number-at-requires-5 c κs = search needs
 
-parity-in-requires : tie.Need-parity-in-requires
-parity-in-requires c κs = search needs
+named-requires : tie.Need-named-requires
+named-requires c κs = search needs
 
 number-at-requires-6 : tie.Need-number-at-requires-6
 number-at-requires-6 c κs = search needs
@@ -56,7 +56,7 @@ returns c =
       width = (width .size-in .ensures ∙ ap (λ (n : ℕ). n % 65536) (width .before .number-at2 .ensures)) i;
       height = (height .size-in2 .ensures ∙ ap (λ (n : ℕ). n % 65536) (height .before .number-at3 .ensures)) i;
       depth = (depth .byte-in .ensures ∙ ap (λ (n : ℕ). n % 256) (depth .before .number-at4 .ensures)) i;
-      parity = (parity .parity-in .ensures ∙ ap parityNamed (parity .before .number-at5 .ensures)) i;
+      parity = (parity .named .ensures ∙ ap parityNamed (parity .before .number-at5 .ensures)) i;
       time = (c .time-in .ensures ∙ (λ j. timeOf (c .before .before .number-at6 .ensures j) (c .before .number-at7 .ensures j))) i;
     }
 
@@ -72,7 +72,7 @@ weaver-in-spec =
     number-at-requires-4
     byte-in-requires
     number-at-requires-5
-    parity-in-requires
+    named-requires
     number-at-requires-6
     number-at-requires-7
     time-in-requires

@@ -46,9 +46,10 @@ enum Call {
     Reset {
         state: usize,
     },
-    /// No call: puts the state so far on, by a multiple of five frames, that so
-    /// many or up to four more are left until number 9. The Rust cannot be put
-    /// on, and need not be: no step of a phase changes.
+    /// No call: raises the state's count of frames until this many are left
+    /// before number 9, or up to four more, since it is raised by a multiple of
+    /// five. No step of a phase changes by that, so that the Rust, whose count
+    /// cannot be raised, still goes with it.
     Late(u64),
 }
 

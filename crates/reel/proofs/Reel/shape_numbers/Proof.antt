@@ -1,6 +1,9 @@
+use mathlib.Core.Path.{sym, _∙_}
+use denote.Ref.{now}
 use borrow.Author.Needs.{needs}
 use borrow.Author.Tests.{le-leb, lt-leb, eq-eqb, ne-eqb}
 use Rattle.reel.specs.Machine.{shapeNumbersOf}
+use Rattle.reel.proofs.Cut.{judged-cut, uncut}
 use Rattle.reel.proofs.Reel.shape_numbers.Statement.{statement}
 use Rattle.reel.proofs.Reel.shape_numbers.Tie as tie
 
@@ -33,7 +36,7 @@ returns-2 c =
     let word = judged .before in
     let read = word .before .before in
     let long = read .before in
-    let same = rw (word .word-at .ensures, read .pictured-in .ensures) at (judged .shape-no .ensures) in
+    let same = (rw (word .word-at .ensures, read .pictured-in .ensures) at (judged .shape-no .ensures)) ∙ judged-cut (now (long .before .before .args .unit)) in
     simp (le-leb _ _ (long .if1 .left), ← same, ne-eqb _ _ (refused .if2 .taken), c .close2 .ensures)
 
 returns-3 : tie.Need-returns-3
@@ -44,8 +47,9 @@ returns-3 c =
     let word = judged .before in
     let read = word .before .before in
     let long = read .before in
-    let same = rw (word .word-at .ensures, read .pictured-in .ensures) at (judged .shape-no .ensures) in
-    simp (le-leb _ _ (long .if1 .left), ← same, eq-eqb _ _ (passed .if2 .left), read .pictured-in .ensures)
+    let unit = now (long .before .before .args .unit) in
+    let same = (rw (word .word-at .ensures, read .pictured-in .ensures) at (judged .shape-no .ensures)) ∙ judged-cut unit in
+    simp (le-leb _ _ (long .if1 .left), ← same, eq-eqb _ _ (passed .if2 .left), read .pictured-in .ensures, uncut unit (sym same ∙ passed .if2 .left))
 
 pub shape-numbers-spec : {M : Type 1} → statement M
 shape-numbers-spec =

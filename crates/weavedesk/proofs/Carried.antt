@@ -1,7 +1,7 @@
 -- The state always holds the weaver that the calls leave, of the fields that the host means.
 use Prim.Native.Nat.{ℕ, _≤_, _<_, _^_}
 use mathlib.Core.Path.{_≡_, refl, ap, _∙_}
-use mathlib.Core.Bool.{Bool, true, false, cond, _&&_}
+use mathlib.Core.Bool.{Bool, true, false, cond}
 use mathlib.Core.List.{List, [], _∷_}
 use native.Mathlib.Omega.{arith}
 use lib.Dec.{leb, eqb}
@@ -15,7 +15,7 @@ use Rattle.weaver.specs.declared.Time.the-variants as time
 use Rattle.weaver.specs.declared.Weaver.{Weaver}
 use Rattle.weaver.specs.Weaver.{emptyWeaver, pushWeaver, pushStore}
 use Rattle.weaver.specs.History as calls
-use Rattle.weaver.proofs.Held as weaver-held
+use Rattle.weaver.proofs.Reached as weaver
 use Rattle.weavedesk.specs.Woven.{fieldNamed}
 use Rattle.weavedesk.specs.Waiting.{wholeSize, weaverNumbers, weaverIn, keeping}
 use Rattle.weavedesk.specs.Push.{Lent, Offer, newNo, clearNo, emptied, parityIn, timeIn, given, weaverOf, pushNo, weaverAfter, stateAfter, storeAfter}
@@ -48,12 +48,12 @@ found-then n w state sized = either (eqb n 0) (λ e. sized (eqb-true n 0 e))
 
 -- ---- what is lent holds what the weaver's own calls leave
 
-abbrev pub heldIn : Lent → calls.State
-heldIn l = record { weaver = weaverOf l; store = l .store }
+abbrev pub stateIn : Lent → calls.State
+stateIn l = record { weaver = weaverOf l; store = l .store }
 
-pub record Held (l : Lent) (s : calls.State) : Type 0 where
+pub record Carries (l : Lent) (s : calls.State) : Type 0 where
   pub room : 56 ≤ length (l .state)
-  pub same : heldIn l ≡ s
+  pub same : stateIn l ≡ s
 
 unnamed : (codes : Bool) (tests : List (ℕ × Bool)) → codes ≡ false → lowest ((3, codes) ∷ tests) ≡ 3
 unfolding lowest
@@ -72,14 +72,14 @@ module _ (l : Lent) (room : 56 ≤ length (l .state)) where
   enough : leb 56 (length (l .state)) ≡ true
   enough = le-leb 56 (length (l .state)) room
 
-  pub number-same : (o : Offer) → codesNamed o ≡ true → pushNo l o ≡ calls.numberIn (heldIn l) (fieldMeant o)
+  pub number-same : (o : Offer) → codesNamed o ≡ true → pushNo l o ≡ calls.numberIn (stateIn l) (fieldMeant o)
   number-same o e = behind-first _ _ _ (codesNamed o) _ _ (leb 56 (length (l .state))) e enough
 
   -- a field whose codes name it
-  pushed-held :
+  pushed-carries :
       (o : Offer) (fit : wholeSize (o .time) < 2 ^ 63) → codesNamed o ≡ true
-      → heldIn (next l (push o fit)) ≡ calls.next (heldIn l) (calls.push (fieldMeant o))
-  pushed-held o fit e =
+      → stateIn (next l (push o fit)) ≡ calls.next (stateIn l) (calls.push (fieldMeant o))
+  pushed-carries o fit e =
       let found = found-then (pushNo l o) (weaverAfter l o) (l .state) (λ z. push-sized l o z fit) in
       λ i. record {
         weaver = (found ∙ (λ j. pushWeaver (number-same o e j) (weaverOf l) (fieldNamed (o .shape)) (parityIn o) (timeIn o))) i;
@@ -87,67 +87,67 @@ module _ (l : Lent) (room : 56 ≤ length (l .state)) where
       }
 
   -- one whose codes name nothing
-  unnamed-held : (o : Offer) (fit : wholeSize (o .time) < 2 ^ 63) → codesNamed o ≡ false → heldIn (next l (push o fit)) ≡ heldIn l
-  unnamed-held o fit e =
+  unnamed-carries : (o : Offer) (fit : wholeSize (o .time) < 2 ^ 63) → codesNamed o ≡ false → stateIn (next l (push o fit)) ≡ stateIn l
+  unnamed-carries o fit e =
       let three = unnamed (codesNamed o) _ e in
       λ i. record { weaver = weaverIn (stateAfter (three i) l o); store = storeAfter (three i) l o }
 
-  cleared-held : heldIn (next l clear) ≡ calls.next (heldIn l) calls.clear
-  cleared-held =
+  cleared-carries : stateIn (next l clear) ≡ calls.next (stateIn l) calls.clear
+  cleared-carries =
       let zero = alone-passes 6 (leb 56 (length (l .state))) enough in
       λ i. record {
         weaver = ((λ j. weaverIn (emptied (zero j) (l .state))) ∙ found-again emptyWeaver (l .state) empty-sized) i;
         store = l .store;
       }
 
-new-held : (l : Lent) → 56 ≤ length (l .state) → Held (next l new) (calls.after (l .store) [])
-new-held l room = record { room = written-room (newNo (length (l .state))) emptyWeaver (l .state) room; same = begun }
+new-carries : (l : Lent) → 56 ≤ length (l .state) → Carries (next l new) (calls.after (l .store) [])
+new-carries l room = record { room = written-room (newNo (length (l .state))) emptyWeaver (l .state) room; same = begun }
   where
-    begun : heldIn (next l new) ≡ calls.after (l .store) []
+    begun : stateIn (next l new) ≡ calls.after (l .store) []
     begun =
         let zero = alone-passes 7 (leb 56 (length (l .state))) (le-leb 56 (length (l .state)) room) in
         λ i. record { weaver = ((λ j. weaverIn (emptied (zero j) (l .state))) ∙ found-again emptyWeaver (l .state) empty-sized) i; store = l .store }
 
 -- ---- any calls
 
-push-held :
-    (store : List ℕ) (l : Lent) (made : List calls.Call) → Held l (calls.after store made) → (o : Offer) (fit : wholeSize (o .time) < 2 ^ 63) (b : Bool)
-    → codesNamed o ≡ b → Held (next l (push o fit)) (calls.after store (cond b (calls.push (fieldMeant o) ∷ made) made))
-push-held store l made h o fit true e = record {
+push-carries :
+    (store : List ℕ) (l : Lent) (made : List calls.Call) → Carries l (calls.after store made) → (o : Offer) (fit : wholeSize (o .time) < 2 ^ 63) (b : Bool)
+    → codesNamed o ≡ b → Carries (next l (push o fit)) (calls.after store (cond b (calls.push (fieldMeant o) ∷ made) made))
+push-carries store l made h o fit true e = record {
   room = written-room (pushNo l o) (weaverAfter l o) (l .state) (h .room);
-  same = pushed-held l (h .room) o fit e ∙ ap (λ (s : calls.State). calls.next s (calls.push (fieldMeant o))) (h .same);
+  same = pushed-carries l (h .room) o fit e ∙ ap (λ (s : calls.State). calls.next s (calls.push (fieldMeant o))) (h .same);
 }
-push-held store l made h o fit false e = record {
+push-carries store l made h o fit false e = record {
   room = written-room (pushNo l o) (weaverAfter l o) (l .state) (h .room);
-  same = unnamed-held l (h .room) o fit e ∙ h .same;
+  same = unnamed-carries l (h .room) o fit e ∙ h .same;
 }
 
 -- what the calls leave is what the fields since the last `new` leave, from the store that it found
 pub record Follows (state store : List ℕ) (made : List Call) : Type 0 where
   pub found : List ℕ
   pub long : length found ≡ length store
-  pub held : Held (after state store made) (calls.after found (callsOf made))
+  pub carries : Carries (after state store made) (calls.after found (callsOf made))
 
 module _ (state store : List ℕ) (room : 56 ≤ length state) where
   pub follows : (made : List Call) → Follows state store made
-  follows [] = record { found = store; long = refl; held = new-held (record { state = state; store = store }) room }
+  follows [] = record { found = store; long = refl; carries = new-carries (record { state = state; store = store }) room }
   follows (new ∷ earlier) =
       let f = follows earlier in
       let l = after state store earlier in
       record {
         found = l .store;
         long =
-            ap (λ (s : calls.State). length (s .store)) (f .held .same)
-            ∙ weaver-held.any-held (f .found) (callsOf earlier) .long
+            ap (λ (s : calls.State). length (s .store)) (f .carries .same)
+            ∙ weaver.any-reached (f .found) (callsOf earlier) .long
             ∙ f .long;
-        held = new-held l (f .held .room);
+        carries = new-carries l (f .carries .room);
       }
   follows (push o fit ∷ earlier) =
       let f = follows earlier in
       record {
         found = f .found;
         long = f .long;
-        held = push-held (f .found) (after state store earlier) (callsOf earlier) (f .held) o fit (codesNamed o) refl;
+        carries = push-carries (f .found) (after state store earlier) (callsOf earlier) (f .carries) o fit (codesNamed o) refl;
       }
   follows (clear ∷ earlier) =
       let f = follows earlier in
@@ -155,8 +155,8 @@ module _ (state store : List ℕ) (room : 56 ≤ length state) where
       record {
         found = f .found;
         long = f .long;
-        held = record {
-          room = written-room (clearNo (length (l .state))) emptyWeaver (l .state) (f .held .room);
-          same = cleared-held l (f .held .room) ∙ ap (λ (s : calls.State). calls.next s calls.clear) (f .held .same);
+        carries = record {
+          room = written-room (clearNo (length (l .state))) emptyWeaver (l .state) (f .carries .room);
+          same = cleared-carries l (f .carries .room) ∙ ap (λ (s : calls.State). calls.next s calls.clear) (f .carries .same);
         };
       }

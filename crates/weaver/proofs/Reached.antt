@@ -43,7 +43,7 @@ refusalBy room w f =
     lowest
     ((4, goodField (f .field .shape)) ∷ (5, chromaFits (f .field .shape)) ∷ (6, whole (f .field)) ∷ (7, hasRoom room (mateOf w f) f) ∷ [])
 
-pub record Held (room : ℕ) (state : State) (w : Waiting) : Type 0 where
+pub record Reached (room : ℕ) (state : State) (w : Waiting) : Type 0 where
   pub long : length (state .store) ≡ room
   pub weaver : state .weaver ≡ weaverBy w
   pub rest : List ℕ
@@ -91,7 +91,7 @@ module _ (room : ℕ) (f : Sent) where
       ap (λ (t : Bool). cond t outRoom fieldRoom) (fits-by w f) ∙ room-by w in
       λ i. lowest ((4, goodField (f .field .shape)) ∷ (5, chromaFits (f .field .shape)) ∷ (6, long i) ∷ (7, roomy i) ∷ [])
 
-module _ (room : ℕ) (state : State) (w : Waiting) (h : Held room state w) (f : Sent) where
+module _ (room : ℕ) (state : State) (w : Waiting) (h : Reached room state w) (f : Sent) where
   pub fits-known : fits (state .weaver) (f .field .shape) (f .parity) ≡ matesBy w f
   fits-known = ap (λ (weaver : Weaver). fits weaver (f .field .shape) (f .parity)) (h .weaver) ∙ fits-by w f
 
@@ -113,9 +113,9 @@ module _ (room : ℕ) (state : State) (f : Sent) (long : length (state .store) �
     store = cond t (state .store) (over (packedField (f .field)) (state .store));
   }
 
-  held-if : (t : Bool) → cond t true (fieldRoom room f) ≡ true → Held room (afterwards t) (cond t none (waits f))
-  held-if true e = record { long = long; weaver = refl; rest = state .store; begins = refl; sound = tt }
-  held-if false e =
+  reached-if : (t : Bool) → cond t true (fieldRoom room f) ≡ true → Reached room (afterwards t) (cond t none (waits f))
+  reached-if true e = record { long = long; weaver = refl; rest = state .store; begins = refl; sound = tt }
+  reached-if false e =
       let size = field-packed (f .field) s in
       let enough = leb-true (fieldBytes (f .field .shape .luma .width) (f .field .shape .luma .height) (f .field .shape .luma .depth)) room e in
       record {
@@ -134,14 +134,14 @@ roomy-if : (t a b : Bool) → cond t a b ≡ true → cond t true b ≡ true
 roomy-if true a b e = refl
 roomy-if false a b e = e
 
-module _ (room : ℕ) (state : State) (w : Waiting) (h : Held room state w) (f : Sent) (z : numberIn state f ≡ 0) where
+module _ (room : ℕ) (state : State) (w : Waiting) (h : Reached room state w) (f : Sent) (z : numberIn state f ≡ 0) where
   pub tests :
       Passed (state .weaver) (f .field) (fits (state .weaver) (f .field .shape) (f .parity)) (length (state .store)) (f .luma-room) (f .cb-room) (f .cr-room)
   tests =
       passed (state .weaver) (f .field) (fits (state .weaver) (f .field .shape) (f .parity)) (length (state .store)) (f .luma-room) (f .cb-room) (f .cr-room) z
 
-  taken-held : Held room (next state (push f)) (waitingThen w f)
-  taken-held =
+  taken-reached : Reached room (next state (push f)) (waitingThen w f)
+  taken-reached =
       let fit = fits-known room state w h f in
       let s = sound (f .field) (tests .good) (tests .halved) (tests .long) in
       let roomy : cond (matesBy w f) (outRoom room f) (fieldRoom room f) ≡ true =
@@ -152,23 +152,23 @@ module _ (room : ℕ) (state : State) (w : Waiting) (h : Held room state w) (f :
         weaver = written (z i) (cond (fit i) emptyWeaver (waitingFor (f .field .shape) (f .parity) (f .time))) (state .weaver);
         store = written (z i) (cond (fit i) (state .store) (over (packedField (f .field)) (state .store))) (state .store);
       } in
-      subst (λ (later : State). Held room later (waitingThen w f)) (sym step)
-      (subst (λ (waiting : Waiting). Held room (afterwards room state f (h .long) s (matesBy w f)) waiting) (then-is w f)
-      (held-if room state f (h .long) s (matesBy w f) (roomy-if (matesBy w f) (outRoom room f) (fieldRoom room f) roomy)))
+      subst (λ (later : State). Reached room later (waitingThen w f)) (sym step)
+      (subst (λ (waiting : Waiting). Reached room (afterwards room state f (h .long) s (matesBy w f)) waiting) (then-is w f)
+      (reached-if room state f (h .long) s (matesBy w f) (roomy-if (matesBy w f) (outRoom room f) (fieldRoom room f) roomy)))
 
 pub refused-leaves : (state : State) (f : Sent) → (numberIn state f ≡ 0 → ⊥) → next state (push f) ≡ state
 refused-leaves state f h = rw (ne-eqb (numberIn state f) 0 h)
 
 -- ---- any calls
-module _ (room : ℕ) (state : State) (f : Sent) (earlier : List Call) (h : Held room state (waitingAfter earlier)) where
-  push-held : (n : ℕ) → refusalOf room f earlier ≡ n → Held room (next state (push f)) (waitingAfter (cond (eqb n 0) (push f ∷ earlier) earlier))
-  push-held zero e = taken-held room state (waitingAfter earlier) h f (number-known room state (waitingAfter earlier) h f ∙ e)
-  push-held (suc n) e =
+module _ (room : ℕ) (state : State) (f : Sent) (earlier : List Call) (h : Reached room state (waitingAfter earlier)) where
+  push-reached : (n : ℕ) → refusalOf room f earlier ≡ n → Reached room (next state (push f)) (waitingAfter (cond (eqb n 0) (push f ∷ earlier) earlier))
+  push-reached zero e = taken-reached room state (waitingAfter earlier) h f (number-known room state (waitingAfter earlier) h f ∙ e)
+  push-reached (suc n) e =
       rw (ne-eqb (suc n) 0 (omega arith), refused-leaves state f (λ z. omega (arith, z, e, number-known room state (waitingAfter earlier) h f))) h
 
-pub any-held : (store : List ℕ) (calls : List Call) → Held (length store) (after store calls) (waitingAfter (taken (length store) calls))
-any-held store [] = record { long = refl; weaver = refl; rest = store; begins = refl; sound = tt }
-any-held store (push f ∷ earlier) = push-held (length store) (after store earlier) f (taken (length store) earlier) (any-held store earlier) _ refl
-any-held store (clear ∷ earlier) =
-    let h = any-held store earlier in
+pub any-reached : (store : List ℕ) (calls : List Call) → Reached (length store) (after store calls) (waitingAfter (taken (length store) calls))
+any-reached store [] = record { long = refl; weaver = refl; rest = store; begins = refl; sound = tt }
+any-reached store (push f ∷ earlier) = push-reached (length store) (after store earlier) f (taken (length store) earlier) (any-reached store earlier) _ refl
+any-reached store (clear ∷ earlier) =
+    let h = any-reached store earlier in
     record { long = h .long; weaver = refl; rest = after store earlier .store; begins = refl; sound = tt }
