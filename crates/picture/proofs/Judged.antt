@@ -1,4 +1,4 @@
--- What a call of `picture_of` that gets 0 has shown: any two of its three frames may serve beside the current one, and every band of theirs that
+-- What a call of `picture_of` that gets 0 has shown: any two of its three frames may serve beside the current one, and every part of theirs that
 -- lies within and has room gets 0 too.
 use mathlib.Core.Path.{_≡_, refl, sym, ap, ap₂, subst, _∙_}
 use mathlib.Core.Bool.{Bool, true, _&&_}
@@ -20,18 +20,20 @@ use Rattle.filter.specs.declared.Making.{Making}
 use Rattle.filter.specs.Rows.{goodRows}
 use Rattle.colour.specs.declared.Conversion.{Conversion}
 use Rattle.colour.specs.Colour.{goodConversion}
-use Rattle.fill.specs.Band.{bandNo}
+use Rattle.fill.specs.declared.Place.{Place}
+use Rattle.fill.specs.Fill.{partNo}
 use Rattle.picture.specs.declared.Recipe.{Recipe}
 use Rattle.picture.specs.Picture.{Frame, frameOf, goodShapes, chromaFits, lent, served, pictureTests, pictureNo}
-use Rattle.picture.specs.Inner.{recipeOf, Serving, Makeable, Paintable}
+use Rattle.picture.specs.Inner.{recipeOf, Serving, Makeable, Paintable, Inside}
 
--- ---- a band of planes that were judged
-pub band-done :
-    {m : Making} {t : Serving} (from count room : ℕ) → Makeable m t → from + count ≤ m .cur .height → count * m .cur .width ≤ room →
-    bandNo (m .rows) (m .before) (length (t .before)) (m .cur) (length (t .cur)) (m .after) (length (t .after)) from count room ≡ 0
+-- ---- a part of planes that were judged
+pub part-done :
+    {m : Making} {t : Serving} (place : Place) (room : ℕ) → Makeable m t → Inside place (m .cur) → place .height * place .width ≤ room →
+    partNo m place (length (t .before)) (length (t .cur)) (length (t .after)) room ≡ 0
 unfolding lowest
-band-done {m} {t} from count room j inside fits =
-    simp (j .asked, le-leb (from + count) (m .cur .height) inside, j .good, j .alike, j .whole, le-leb (count * m .cur .width) room fits)
+part-done {m} {t} place room j inside fits =
+    simp
+    (j .asked, le-leb (place .top + place .height) (m .cur .height) (inside .rows), le-leb (place .left + place .width) (m .cur .width) (inside .columns), j .good, j .alike, j .whole, le-leb (place .height * place .width) room fits)
 
 -- what is written at 0
 pub done-written : {A : Type 0} {n : ℕ} {x y : A} (old : A) → n ≡ 0 → x ≡ written n y old → x ≡ y
@@ -57,6 +59,9 @@ module _ (a b : Shape) where
   agrees : Alike a b → agree a b ≡ true
   agrees s = simp (eq-eqb (a .width) (b .width) (s .width), eq-eqb (a .height) (b .height) (s .height), eq-eqb (a .depth) (b .depth) (s .depth))
 
+turned : {a b : Shape} → Alike a b → Alike b a
+turned s = record { width = sym (s .width); height = sym (s .height); depth = sym (s .depth) }
+
 -- a chroma plane is as its luma's halved shape
 abbrev halved : Shape → Shape
 halved s = record { width = half (s .width); height = half (s .height); depth = s .depth; stride = s .stride; layout = s .layout }
@@ -75,7 +80,7 @@ both-alike l c c′ = record {
 -- ---- a plane, and a frame, that may serve beside the current one
 record Fits (s : Shape) (bytes : ℕ) (cur : Shape) : Type 0 where
   good : goodShape s ≡ true
-  same : agree s cur ≡ true
+  same : agree cur s ≡ true
   whole : leb (planeBytes s) bytes ≡ true
 
 record Serves (f cur : Frame) : Type 0 where
@@ -98,9 +103,9 @@ serves f cur good same chroma cur-chroma whole =
     let cbs = both-alike lumas (chroma-alike (f .shapes .luma) (f .shapes .cb) (chromas .0)) (chroma-alike (cur .shapes .luma) (cur .shapes .cb) (cur-chromas .0)) in
     let crs = both-alike lumas (chroma-alike (f .shapes .luma) (f .shapes .cr) (chromas .1)) (chroma-alike (cur .shapes .luma) (cur .shapes .cr) (cur-chromas .1)) in
     record {
-      luma = record { good = two-goods .0; same = same; whole = two-wholes .0 };
-      cb = record { good = two-goods .1; same = agrees (f .shapes .cb) (cur .shapes .cb) cbs; whole = two-wholes .1 };
-      cr = record { good = goods .1; same = agrees (f .shapes .cr) (cur .shapes .cr) crs; whole = wholes .1 };
+      luma = record { good = two-goods .0; same = agrees (cur .shapes .luma) (f .shapes .luma) (turned lumas); whole = two-wholes .0 };
+      cb = record { good = two-goods .1; same = agrees (cur .shapes .cb) (f .shapes .cb) (turned cbs); whole = two-wholes .1 };
+      cr = record { good = goods .1; same = agrees (cur .shapes .cr) (f .shapes .cr) (turned crs); whole = wholes .1 };
     }
 
 -- whichever the output asks for, picked part by part

@@ -2,5 +2,6 @@
 pub mod Quotients
 pub mod Judged
 pub mod Painted
+pub mod Tiles
 pub mod Values
 pub mod Claims

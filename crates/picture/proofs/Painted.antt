@@ -1,21 +1,22 @@
--- Pixels that are painted from bands of samples are those of the picture.
+-- Pixels that are painted from tiles of samples are those of the picture.
 use mathlib.Core.Path.{_≡_, refl, sym, ap, _∙_}
 use mathlib.Core.List.{List}
-use Prim.Native.Nat.{ℕ, _+_, _*_, _/_, _%_, _<_}
+use Prim.Native.Nat.{ℕ, _+_, _*_, _/_, _%_, _≤_, _<_}
 use native.Mathlib.Omega.{arith}
 use lib.ListN.{length, getD}
 use lib.Ieee.{Float, nan}
-use Rattle.laws.specs.Rows.{laid, over}
-use Rattle.laws.proofs.Lists.{length-listed, listed-at, same-laid, length-laid, cut-row}
+use Rattle.laws.specs.Rows.{listed, laid, over}
+use Rattle.laws.proofs.Lists.{length-listed, listed-at, same-laid, length-laid, laid-at, cut-row}
 use Rattle.plane.specs.Plane.{half}
 use Rattle.filter.specs.declared.Quality.{Quality}
 use Rattle.filter.specs.declared.Rows.{Rows}
 use Rattle.filter.specs.declared.Making.{Making}
+use Rattle.fill.specs.declared.Place.{Place}
 use Rattle.colour.specs.declared.Conversion.{Conversion}
 use Rattle.colour.specs.Colour.{convertedOf}
 use Rattle.picture.specs.declared.Recipe.{Recipe}
 use Rattle.picture.specs.Picture.{Frame, pixelOf, colourAt, pixelRow, pixelRows}
-use Rattle.picture.specs.Inner.{recipeOf, Serving, Paintable, sampleAt, lineIn, bandIn, rowIn, rowsIn, cut, paintedRow, paintedAt}
+use Rattle.picture.specs.Inner.{recipeOf, Serving, sampleAt, chromaOf, partIn, rowIn, rowsIn, cut, paintedRow, paintedAt}
 use Rattle.picture.proofs.Judged.{lumas, cbs, crs}
 
 -- ---- lengths
@@ -26,61 +27,79 @@ pub length-painted : (conversion : Conversion) (width : ℕ) (luma cb cr : List 
 unfolding paintedRow
 length-painted conversion width luma cb cr = length-pixels width _ (λ x. refl)
 
--- ---- row y of a band
-cut-band :
-    (m : Making) (t : Serving) (from count y : ℕ) (samples old : List Float) → y < count → samples ≡ over (bandIn m t from count) old →
-    cut samples (m .cur .width) y ≡ lineIn m t (m .cur .width) (from + y)
-cut-band m t from count y samples old l e =
-    ap (λ (s : List Float). cut s (m .cur .width) y) e
-    ∙ cut-row (λ (n : ℕ). lineIn m t (m .cur .width) (from + n)) (m .cur .width) (λ n. length-listed (m .cur .width) _) count y _ l
+-- ---- row y of a part
+cut-part :
+    (m : Making) (t : Serving) (place : Place) (y : ℕ) (samples old : List Float) → y < place .height → samples ≡ over (partIn m t place) old →
+    cut samples (place .width) y ≡ listed (place .width) (λ x. sampleAt m t (place .left + x) (place .top + y))
+cut-part m t place y samples old l e =
+    ap (λ (s : List Float). cut s (place .width) y) e
+    ∙ cut-row (λ (n : ℕ). listed (place .width) (λ x. sampleAt m t (place .left + x) (place .top + n))) (place .width) (λ n. length-listed (place .width) _)
+    (place .height) y _ l
+
+-- and sample x of it
+part-sample :
+    (m : Making) (t : Serving) (place : Place) (x y : ℕ) (samples old : List Float) → x < place .width → y < place .height → samples ≡ over (partIn m t place) old →
+    getD (cut samples (place .width) y) x nan ≡ sampleAt m t (place .left + x) (place .top + y)
+part-sample m t place x y samples old in-row in-rows e =
+    ap (λ (line : List Float). getD line x nan) (cut-part m t place y samples old in-rows e)
+    ∙ listed-at (place .width) (λ (n : ℕ). sampleAt m t (place .left + n) (place .top + y)) x nan in-row
 
 module _ (r : Recipe) (luma cb cr : Serving) where
   abbrev w : ℕ
   w = r .luma .cur .width
 
+  abbrev pixel : ℕ → ℕ → List ℕ
+  pixel x y = pixelOf (convertedOf (r .conversion) (sampleAt (r .luma) luma x y) (sampleAt (r .cb) cb (x / 2) (y / 2)) (sampleAt (r .cr) cr (x / 2) (y / 2)))
+
   pub length-row : (y : ℕ) → length (rowIn r luma cb cr y) ≡ w * 4
   unfolding rowIn
   length-row y = length-pixels w _ (λ x. refl)
 
-  -- ---- a row, from lines of samples
-  painted-line :
-      (y : ℕ) →
-      paintedRow (r .conversion) w (lineIn (r .luma) luma w y) (lineIn (r .cb) cb (half w) (y / 2)) (lineIn (r .cr) cr (half w) (y / 2)) ≡ rowIn r luma cb cr y
-  unfolding paintedRow rowIn
-  painted-line y = same-laid w _ _ (λ x l. ap pixelOf (pixel x l))
-    where
-      pixel :
-          (x : ℕ) → x < w →
-          convertedOf (r .conversion) (getD (lineIn (r .luma) luma w y) x nan) (getD (lineIn (r .cb) cb (half w) (y / 2)) (x / 2) nan)
-          (getD (lineIn (r .cr) cr (half w) (y / 2)) (x / 2) nan)
-          ≡ convertedOf (r .conversion) (sampleAt (r .luma) luma x y) (sampleAt (r .cb) cb (x / 2) (y / 2)) (sampleAt (r .cr) cr (x / 2) (y / 2))
-      pixel x l =
-          let inner : x / 2 < half w = omega arith in
-          λ i.
-          convertedOf (r .conversion) (listed-at w (λ (n : ℕ). sampleAt (r .luma) luma n y) x nan l i)
-          (listed-at (half w) (λ (n : ℕ). sampleAt (r .cb) cb n (y / 2)) (x / 2) nan inner i)
-          (listed-at (half w) (λ (n : ℕ). sampleAt (r .cr) cr n (y / 2)) (x / 2) nan inner i)
+  -- ---- a tile, from its samples
+  module _
+      (place : Place) (lumas cbs crs old-luma old-cb old-cr : List Float) (even-row : place .top % 2 ≡ 0) (even-column : place .left % 2 ≡ 0)
+      (l : lumas ≡ over (partIn (r .luma) luma place) old-luma) (b : cbs ≡ over (partIn (r .cb) cb (chromaOf place)) old-cb)
+      (c : crs ≡ over (partIn (r .cr) cr (chromaOf place)) old-cr) where
+    tile-line :
+        (y : ℕ) → y < place .height →
+        paintedAt (r .conversion) (place .width) lumas cbs crs y ≡ laid (place .width) (λ x. pixel (place .left + x) (place .top + y))
+    unfolding paintedRow
+    tile-line y inside = same-laid (place .width) _ _ (λ x in-row. ap pixelOf (colour x in-row))
+      where
+        colour :
+            (x : ℕ) → x < place .width →
+            convertedOf (r .conversion) (getD (cut lumas (place .width) y) x nan) (getD (cut cbs (half (place .width)) (y / 2)) (x / 2) nan)
+            (getD (cut crs (half (place .width)) (y / 2)) (x / 2) nan)
+            ≡ convertedOf (r .conversion) (sampleAt (r .luma) luma (place .left + x) (place .top + y))
+            (sampleAt (r .cb) cb ((place .left + x) / 2) ((place .top + y) / 2)) (sampleAt (r .cr) cr ((place .left + x) / 2) ((place .top + y) / 2))
+        colour x in-row =
+            let chroma-row : y / 2 < half (place .height) = omega (arith, inside) in
+            let chroma-column : x / 2 < half (place .width) = omega (arith, in-row) in
+            let row : place .top / 2 + y / 2 ≡ (place .top + y) / 2 = omega (arith, even-row) in
+            let column : place .left / 2 + x / 2 ≡ (place .left + x) / 2 = omega (arith, even-column) in
+            let at-luma = part-sample (r .luma) luma place x y lumas old-luma in-row inside l in
+            let at-cb = part-sample (r .cb) cb (chromaOf place) (x / 2) (y / 2) cbs old-cb chroma-column chroma-row b ∙ (λ i. sampleAt (r .cb) cb (column i) (row i)) in
+            let at-cr = part-sample (r .cr) cr (chromaOf place) (x / 2) (y / 2) crs old-cr chroma-column chroma-row c ∙ (λ i. sampleAt (r .cr) cr (column i) (row i)) in
+            λ i. convertedOf (r .conversion) (at-luma i) (at-cb i) (at-cr i)
 
-  -- ---- rows, from bands
-  pub group-rows :
-      (from count : ℕ) (lumas cbs crs old-luma old-cb old-cr : List Float) → Paintable r luma cb cr → from % 2 ≡ 0 →
-      lumas ≡ over (bandIn (r .luma) luma from count) old-luma → cbs ≡ over (bandIn (r .cb) cb (from / 2) (half count)) old-cb →
-      crs ≡ over (bandIn (r .cr) cr (from / 2) (half count)) old-cr →
-      laid count (paintedAt (r .conversion) w lumas cbs crs) ≡ laid count (λ y. rowIn r luma cb cr (from + y))
-  group-rows from count lumas cbs crs old-luma old-cb old-cr p even l b c = same-laid count _ _ row
-    where
-      row : (y : ℕ) → y < count → paintedAt (r .conversion) w lumas cbs crs y ≡ rowIn r luma cb cr (from + y)
-      row y inside =
-          let below : y / 2 < half count = omega arith in
-          let chroma-row : from / 2 + y / 2 ≡ (from + y) / 2 = omega (arith, even) in
-          let line = cut-band (r .luma) luma from count y lumas old-luma inside l in
-          let cb-line =
-          ap (λ (n : ℕ). cut cbs n (y / 2)) (sym (p .cb-width)) ∙ cut-band (r .cb) cb (from / 2) (half count) (y / 2) cbs old-cb below b
-          ∙ (λ i. lineIn (r .cb) cb (p .cb-width i) (chroma-row i)) in
-          let cr-line =
-          ap (λ (n : ℕ). cut crs n (y / 2)) (sym (p .cr-width)) ∙ cut-band (r .cr) cr (from / 2) (half count) (y / 2) crs old-cr below c
-          ∙ (λ i. lineIn (r .cr) cr (p .cr-width i) (chroma-row i)) in
-          (λ i. paintedRow (r .conversion) w (line i) (cb-line i) (cr-line i)) ∙ painted-line (from + y)
+    -- byte j of its row y is byte 4 * left + j of the picture's
+    pub tile-places :
+        place .left + place .width ≤ w → (y j : ℕ) → y < place .height → j < place .width * 4 →
+        getD (paintedAt (r .conversion) (place .width) lumas cbs crs y) j 0 ≡ getD (rowIn r luma cb cr (place .top + y)) (place .left * 4 + j) 0
+    unfolding rowIn
+    tile-places fits y j inside few =
+        let x = j / 4 in
+        let k = j % 4 in
+        let small : k < 4 = omega arith in
+        let column : x < place .width = omega (arith, few) in
+        let further : place .left + x < w = omega (arith, column, fits) in
+        let at : x * 4 + k ≡ j = omega arith in
+        let behind : (place .left + x) * 4 + k ≡ place .left * 4 + j = omega arith in
+        ap (λ (row : List ℕ). getD row j 0) (tile-line y inside)
+        ∙ ap (λ (n : ℕ). getD (laid (place .width) (λ n. pixel (place .left + n) (place .top + y))) n 0) (sym at)
+        ∙ laid-at (λ (n : ℕ). pixel (place .left + n) (place .top + y)) 4 (λ n. refl) (place .width) k x 0 small column
+        ∙ sym (laid-at (λ (n : ℕ). pixel n (place .top + y)) 4 (λ n. refl) w k (place .left + x) 0 small further)
+        ∙ ap (λ (n : ℕ). getD (laid w (λ n. pixel n (place .top + y))) n 0) behind
 
 -- ---- the rows of a recipe are those of the picture
 pub rows-served :

@@ -1,22 +1,24 @@
 -- What the inner functions of `picture` promise; only they cite it.
-use Prim.Native.Nat.{ℕ, _+_, _*_, _/_, _≤_}
+use Prim.Native.Nat.{ℕ, _+_, _*_, _/_, _%_, _≤_, _<_}
 use mathlib.Core.Path.{_≡_}
-use mathlib.Core.Bool.{true, _&&_}
+use mathlib.Core.Bool.{true}
 use mathlib.Core.List.{List}
 use lib.IntN.{pos}
 use lib.ListN.{length, getD, take, drop}
 use lib.Ieee.{Float, nan}
 use denote.Ref.{RefT, now}
 use denote.Triple.Both.{Both}
-use Rattle.laws.specs.Rows.{listed, laid}
+use Rattle.laws.specs.Rows.{laid}
 use Rattle.plane.specs.declared.Shape.{Shape}
 use Rattle.plane.specs.declared.Planes.{Planes}
-use Rattle.plane.specs.Plane.{agree, half}
+use Rattle.plane.specs.Plane.{half}
 use Rattle.filter.specs.declared.Quality.{Quality}
 use Rattle.filter.specs.declared.Rows.{Rows}
 use Rattle.filter.specs.declared.Making.{Making}
 use Rattle.filter.specs.Rows.{rowsOf, goodRows}
-use Rattle.filter.specs.Making.{sampleIn, planesGood, planesWhole}
+use Rattle.filter.specs.Making.{sampleIn, planesGood, planesAlike, planesWhole}
+use Rattle.fill.specs.declared.Place.{Place}
+use Rattle.fill.specs.Fill.{partMade}
 use Rattle.colour.specs.declared.Conversion.{Conversion}
 use Rattle.colour.specs.Colour.{convertedOf}
 use Rattle.picture.specs.declared.Asked.{Asked}
@@ -57,11 +59,11 @@ serving before cur after = servingIn (before .entry) (cur .entry) (after .entry)
 
 -- ---- what was judged before a row is made
 
--- three planes of which any band can be made that lies within and has room
+-- three planes of which any part can be made that lies within and has room
 pub record Makeable (m : Making) (t : Serving) : Type 0 where
   pub asked : goodRows (m .rows) ≡ true
   pub good : planesGood m ≡ true
-  pub alike : (agree (m .before) (m .cur) && agree (m .after) (m .cur)) ≡ true
+  pub alike : planesAlike m ≡ true
   pub whole : planesWhole m (length (t .before)) (length (t .cur)) (length (t .after)) ≡ true
 
 -- three frames of such planes, with chroma of half size
@@ -81,11 +83,8 @@ pub record Paintable (r : Recipe) (luma cb cr : Serving) : Type 0 where
 abbrev pub sampleAt : Making → Serving → ℕ → ℕ → Float
 sampleAt m t x y = sampleIn m (t .before) (t .cur) (t .after) (pos x) (pos y)
 
-abbrev pub lineIn : Making → Serving → ℕ → ℕ → List Float
-lineIn m t width y = listed width (λ x. sampleAt m t x y)
-
-abbrev pub bandIn : Making → Serving → ℕ → ℕ → List Float
-bandIn m t from count = laid count (λ y. lineIn m t (m .cur .width) (from + y))
+abbrev pub partIn : Making → Serving → Place → List Float
+partIn m t place = partMade m place (t .before) (t .cur) (t .after)
 
 unfoldable pub rowIn : Recipe → Serving → Serving → Serving → ℕ → List ℕ
 rowIn r luma cb cr y =
@@ -94,12 +93,6 @@ rowIn r luma cb cr y =
 
 abbrev pub rowsIn : Recipe → Serving → Serving → Serving → List ℕ
 rowsIn r luma cb cr = laid (r .luma .cur .height) (rowIn r luma cb cr)
-
--- places for the samples of eight rows of luma, and of the four rows of cb and of cr that belong to them
-pub record Rooms (luma cb cr : List Float) : Type 0 where
-  pub luma-room : length luma ≡ 65536
-  pub cb-room : length cb ≡ 16384
-  pub cr-room : length cr ≡ 16384
 
 -- ---- pixels, of samples that were made
 
@@ -116,3 +109,61 @@ paintedRow conversion width luma cb cr =
 abbrev pub paintedAt : Conversion → ℕ → List Float → List Float → List Float → ℕ → List ℕ
 paintedAt conversion width luma cb cr y =
     paintedRow conversion width (cut luma width y) (cut cb (half width) (y / 2)) (cut cr (half width) (y / 2))
+
+-- ---- tiles
+
+-- a part lies in a plane
+pub record Inside (place : Place) (s : Shape) : Type 0 where
+  pub rows : place .top + place .height ≤ s .height
+  pub columns : place .left + place .width ≤ s .width
+
+-- a tile that starts at an even place of a luma plane, and so many bytes for all pixels of its rows
+pub record Tile (place : Place) (s : Shape) (out : ℕ) : Type 0 where
+  pub inside : Inside place s
+  pub few-rows : place .height ≤ 8
+  pub few-columns : place .width ≤ 512
+  pub even-row : place .top % 2 ≡ 0
+  pub even-column : place .left % 2 ≡ 0
+  pub room : out ≡ place .height * (s .width * 4)
+
+-- places for its samples
+pub record Rooms (luma cb cr : List Float) : Type 0 where
+  pub luma-room : length luma ≡ 4096
+  pub cb-room : length cb ≡ 1024
+  pub cr-room : length cr ≡ 1024
+
+abbrev pub chromaOf : Place → Place
+chromaOf place = record { top = place .top / 2; height = half (place .height); left = place .left / 2; width = half (place .width) }
+
+-- a tile of rows that stand `stride` bytes apart, and so many samples of it
+pub record TileFits (place : Place) (stride out : ℕ) : Type 0 where
+  pub rows-high : place .height ≤ 8
+  pub columns-high : place .width ≤ 512
+  pub stride-high : stride ≤ 32768
+  pub columns-within : place .left * 4 + place .width * 4 ≤ stride
+  pub rows-within : place .height * stride ≤ out
+
+pub record TileMade (place : Place) (luma cb cr : ℕ) : Type 0 where
+  pub luma-made : place .height * place .width ≤ luma
+  pub cb-made : half (place .height) * half (place .width) ≤ cb
+  pub cr-made : half (place .height) * half (place .width) ≤ cr
+
+-- of each of `count` rows, which stand `width` bytes apart, the first so many bytes
+pub record Painted (row : ℕ → List ℕ) (count width upto : ℕ) (out : List ℕ) : Type 0 where
+  pub places : (y j : ℕ) → y < count → j < upto → getD out (y * width + j) 0 ≡ getD (row y) j 0
+
+-- a part of each of the first `done` rows is written, and what stands to the left of it in any row stays
+pub record Tiled (part : ℕ → List ℕ) (count width left span : ℕ) (old new : List ℕ) (done : ℕ) : Type 0 where
+  pub long : length new ≡ length old
+  pub kept : (y j : ℕ) → y < count → j < left → getD new (y * width + j) 0 ≡ getD old (y * width + j) 0
+  pub put : (y j : ℕ) → y < done → j < span → getD new (y * width + (left + j)) 0 ≡ getD (part y) j 0
+
+abbrev pub paintedTile : Place → ℕ → (ℕ → List ℕ) → List ℕ → List ℕ → ℕ → Type 0
+paintedTile place stride part old new done = Tiled part (place .height) stride (place .left * 4) (place .width * 4) old new done
+
+-- the rows of a tile, up to where it starts and up to where it ends
+abbrev pub PaintedTo : Recipe → Serving → Serving → Serving → Place → List ℕ → Type 0
+PaintedTo r luma cb cr place = Painted (λ y. rowIn r luma cb cr (place .top + y)) (place .height) (r .luma .cur .width * 4) (place .left * 4)
+
+abbrev pub PaintedWith : Recipe → Serving → Serving → Serving → Place → List ℕ → Type 0
+PaintedWith r luma cb cr place = Painted (λ y. rowIn r luma cb cr (place .top + y)) (place .height) (r .luma .cur .width * 4) (place .left * 4 + place .width * 4)

@@ -11,7 +11,7 @@ ghost use lib.ListN.{length, take, drop};
 ghost use Rattle.laws.specs.Rows.{laid, over};
 ghost use Rattle.plane.specs.Plane.{half};
 ghost use Rattle.picture.specs.Picture.{goodShapes, chromaFits, wholeFrame, served, qualityFor, pixelOf, framesLent, askedNo, askedOut};
-ghost use Rattle.picture.specs.Inner.{makingOf, recipeFor, servingIn, serving, Makeable, Paintable, Rooms, bandIn, rowIn, rowsIn, paintedRow, paintedAt};
+ghost use Rattle.picture.specs.Inner.{makingOf, recipeFor, servingIn, serving, Makeable, Paintable, Rooms, Inside, Tile, TileFits, TileMade, chromaOf, partIn, rowIn, rowsIn, paintedRow, paintedAt, PaintedTo, PaintedWith, paintedTile};
 
 // What is asked for: the picture of which `output` says what is shown. `current` is the frame itself, and
 // `previous` and `next` are those at its sides.
@@ -86,27 +86,32 @@ fn paint_row(out: &mut [u8], conversion: colour::Conversion, luma: &[f32], cb: &
     }
 }
 
-// Row after row, each from its own part of the samples. A row of chroma serves two.
+// The rows of a tile, each from its own part of the samples. A row of chroma serves two. In `out` the rows
+// of the picture stand `stride` bytes apart, and the tile's are the `place.height` first.
 fn paint_rows(
     out: &mut [u8],
     conversion: colour::Conversion,
-    width: usize,
-    count: usize,
+    stride: usize,
+    place: fill::Place,
     luma: &[f32],
     cb: &[f32],
     cr: &[f32],
 )
-    requires { ⌜ (width ≤ 8192) × (count ≤ 8) × (length (now out) ≡ count * (width * 4)) ⌝ }
-    requires { ⌜ (count * width ≤ length (now luma)) × (half count * half width ≤ length (now cb)) × (half count * half width ≤ length (now cr)) ⌝ }
-    ensures { λ _. ⌜ now (out .exit) ≡ laid count (paintedAt conversion width (now (luma .entry)) (now (cb .entry)) (now (cr .entry))) ⌝ }
+    requires { ⌜ TileFits place stride (length (now out)) ⌝ }
+    requires { ⌜ TileMade place (length (now luma)) (length (now cb)) (length (now cr)) ⌝ }
+    ensures { λ _. ⌜ paintedTile place stride (paintedAt conversion (place .width) (now (luma .entry)) (now (cb .entry)) (now (cr .entry))) (now (out .entry)) (now (out .exit)) (place .height) ⌝ }
 {
+    let width = place.width as usize;
+    let count = place.height as usize;
+    let left = (place.left as usize) * 4;
+    let span = width * 4;
     let chroma_width = (width + 1) / 2;
     let mut y = 0;
     while y < count {
-        let at = y * (width * 4);
+        let at = y * stride + left;
         let chroma_at = y / 2 * chroma_width;
         paint_row(
-            &mut out[at..at + width * 4],
+            &mut out[at..at + span],
             conversion,
             part_at(luma, y * width, width),
             part_at(cb, chroma_at, chroma_width),
@@ -116,7 +121,7 @@ fn paint_rows(
     }
 }
 
-// ---- eight rows at a time, since each band that is asked for costs the making of its arrays
+// ---- tiles of 512 columns and eight rows, so that the places for their samples stay small
 
 // What a picture is made by, plane by plane, and the colours of its samples.
 struct Recipe {
@@ -126,35 +131,123 @@ struct Recipe {
     conversion: colour::Conversion,
 }
 
-// A band of planes that were judged before, so that its number is 0.
+// The chroma of a tile that starts at an even place.
+fn chroma_of(place: fill::Place) -> fill::Place
+    requires { ⌜ (place .height ≤ 8) × (place .width ≤ 512) ⌝ }
+    ensures { λ r. ⌜ r ≡ chromaOf place ⌝ }
+{
+    fill::Place {
+        top: place.top / 2,
+        height: (place.height + 1) / 2,
+        left: place.left / 2,
+        width: (place.width + 1) / 2,
+    }
+}
+
+// Samples of planes that were judged before, so that the number is 0.
 fn samples(
     out: &mut [f32],
     making: filter::Making,
     before: &[u8],
     cur: &[u8],
     after: &[u8],
-    from: u16,
-    count: u16,
+    place: fill::Place,
 )
     requires { ⌜ Makeable making (servingIn before cur after) ⌝ }
-    requires { ⌜ (from + count ≤ making .cur .height) × (count * making .cur .width ≤ length (now out)) ⌝ }
-    ensures { λ _. ⌜ now (out .exit) ≡ over (bandIn making (serving before cur after) from count) (now (out .entry)) ⌝ }
+    requires { ⌜ Inside place (making .cur) × (place .height * place .width ≤ length (now out)) ⌝ }
+    ensures { λ _. ⌜ now (out .exit) ≡ over (partIn making (serving before cur after) place) (now (out .entry)) ⌝ }
 {
-    let quality = making.quality;
-    let rows = making.rows;
-    fill::band(
+    fill::part(out, making, before, cur, after, place);
+}
+
+// A tile, with places for its samples.
+fn paint_with(
+    out: &mut [u8],
+    recipe: Recipe,
+    before_luma: &[u8],
+    cur_luma: &[u8],
+    after_luma: &[u8],
+    before_cb: &[u8],
+    cur_cb: &[u8],
+    after_cb: &[u8],
+    before_cr: &[u8],
+    cur_cr: &[u8],
+    after_cr: &[u8],
+    place: fill::Place,
+    luma: &mut [f32],
+    cb: &mut [f32],
+    cr: &mut [f32],
+)
+    requires { ⌜ Paintable recipe (servingIn «before_luma» «cur_luma» «after_luma») (servingIn «before_cb» «cur_cb» «after_cb») (servingIn «before_cr» «cur_cr» «after_cr») ⌝ }
+    requires { ⌜ Tile place (recipe .luma .cur) (length (now out)) ⌝ }
+    requires { ⌜ PaintedTo recipe (servingIn «before_luma» «cur_luma» «after_luma») (servingIn «before_cb» «cur_cb» «after_cb») (servingIn «before_cr» «cur_cr» «after_cr») place (now out) ⌝ }
+    requires { ⌜ Rooms (now luma) (now cb) (now cr) ⌝ }
+    ensures { λ _. ⌜ PaintedWith recipe (serving «before_luma» «cur_luma» «after_luma») (serving «before_cb» «cur_cb» «after_cb») (serving «before_cr» «cur_cr» «after_cr») place (now (out .exit)) ⌝ }
+{
+    let making = recipe.luma;
+    let shape = making.cur;
+    let conversion = recipe.conversion;
+    let chroma = chroma_of(place);
+    samples(luma, making, before_luma, cur_luma, after_luma, place);
+    samples(cb, recipe.cb, before_cb, cur_cb, after_cb, chroma);
+    samples(cr, recipe.cr, before_cr, cur_cr, after_cr, chroma);
+    paint_rows(
         out,
-        quality,
-        rows,
-        before,
-        making.before,
-        cur,
-        making.cur,
-        after,
-        making.after,
-        from,
-        count,
+        conversion,
+        (shape.width as usize) * 4,
+        place,
+        luma,
+        cb,
+        cr,
     );
+}
+
+fn paint_tile(
+    out: &mut [u8],
+    recipe: Recipe,
+    before_luma: &[u8],
+    cur_luma: &[u8],
+    after_luma: &[u8],
+    before_cb: &[u8],
+    cur_cb: &[u8],
+    after_cb: &[u8],
+    before_cr: &[u8],
+    cur_cr: &[u8],
+    after_cr: &[u8],
+    place: fill::Place,
+)
+    requires { ⌜ Paintable recipe (servingIn «before_luma» «cur_luma» «after_luma») (servingIn «before_cb» «cur_cb» «after_cb») (servingIn «before_cr» «cur_cr» «after_cr») ⌝ }
+    requires { ⌜ Tile place (recipe .luma .cur) (length (now out)) ⌝ }
+    requires { ⌜ PaintedTo recipe (servingIn «before_luma» «cur_luma» «after_luma») (servingIn «before_cb» «cur_cb» «after_cb») (servingIn «before_cr» «cur_cr» «after_cr») place (now out) ⌝ }
+    ensures { λ _. ⌜ PaintedWith recipe (serving «before_luma» «cur_luma» «after_luma») (serving «before_cb» «cur_cb» «after_cb») (serving «before_cr» «cur_cr» «after_cr») place (now (out .exit)) ⌝ }
+{
+    let mut luma = [0.0f32; 4096];
+    let mut cb = [0.0f32; 1024];
+    let mut cr = [0.0f32; 1024];
+    paint_with(
+        out,
+        recipe,
+        before_luma,
+        cur_luma,
+        after_luma,
+        before_cb,
+        cur_cb,
+        after_cb,
+        before_cr,
+        cur_cr,
+        after_cr,
+        place,
+        &mut luma[0..4096],
+        &mut cb[0..1024],
+        &mut cr[0..1024],
+    );
+}
+
+// As many as are left, or `most` where they are more.
+fn at_most(left: u16, most: u16) -> u16
+    ensures { λ r. ⌜ (r ≤ most) × (r ≤ left) × (1 ≤ left → 1 ≤ most → 1 ≤ r) × (r < left → r ≡ most) ⌝ }
+{
+    if left <= most { left } else { most }
 }
 
 // `count` rows from an even row on.
@@ -172,87 +265,24 @@ fn paint_group(
     after_cr: &[u8],
     from: u16,
     count: u16,
-    luma: &mut [f32],
-    cb: &mut [f32],
-    cr: &mut [f32],
 )
     requires { ⌜ Paintable recipe (servingIn «before_luma» «cur_luma» «after_luma») (servingIn «before_cb» «cur_cb» «after_cb») (servingIn «before_cr» «cur_cr» «after_cr») ⌝ }
     requires { ⌜ (from % 2 ≡ 0) × (from + count ≤ recipe .luma .cur .height) × (count ≤ 8) × (length (now out) ≡ count * (recipe .luma .cur .width * 4)) ⌝ }
-    requires { ⌜ Rooms (now luma) (now cb) (now cr) ⌝ }
     ensures { λ _. ⌜ now (out .exit) ≡ laid count (λ y. rowIn recipe (serving «before_luma» «cur_luma» «after_luma») (serving «before_cb» «cur_cb» «after_cb») (serving «before_cr» «cur_cr» «after_cr») (from + y)) ⌝ }
 {
     let making = recipe.luma;
     let shape = making.cur;
-    let conversion = recipe.conversion;
-    let chroma_from = from / 2;
-    let chroma_count = (count + 1) / 2;
-    samples(luma, making, before_luma, cur_luma, after_luma, from, count);
-    samples(
-        cb,
-        recipe.cb,
-        before_cb,
-        cur_cb,
-        after_cb,
-        chroma_from,
-        chroma_count,
-    );
-    samples(
-        cr,
-        recipe.cr,
-        before_cr,
-        cur_cr,
-        after_cr,
-        chroma_from,
-        chroma_count,
-    );
-    paint_rows(
-        out,
-        conversion,
-        shape.width as usize,
-        count as usize,
-        luma,
-        cb,
-        cr,
-    );
-}
-
-// Eight of the rows that are left, or all where they are fewer.
-fn group(left: u16) -> u16
-    ensures { λ r. ⌜ (r ≤ 8) × (r ≤ left) × (1 ≤ left → 1 ≤ r) × (r < left → r ≡ 8) ⌝ }
-{
-    if left <= 8 { left } else { 8 }
-}
-
-fn paint_groups(
-    out: &mut [u8],
-    recipe: Recipe,
-    before_luma: &[u8],
-    cur_luma: &[u8],
-    after_luma: &[u8],
-    before_cb: &[u8],
-    cur_cb: &[u8],
-    after_cb: &[u8],
-    before_cr: &[u8],
-    cur_cr: &[u8],
-    after_cr: &[u8],
-    luma: &mut [f32],
-    cb: &mut [f32],
-    cr: &mut [f32],
-)
-    requires { ⌜ Paintable recipe (servingIn «before_luma» «cur_luma» «after_luma») (servingIn «before_cb» «cur_cb» «after_cb») (servingIn «before_cr» «cur_cr» «after_cr») ⌝ }
-    requires { ⌜ recipe .luma .cur .height * (recipe .luma .cur .width * 4) ≤ length (now out) ⌝ }
-    requires { ⌜ Rooms (now luma) (now cb) (now cr) ⌝ }
-    ensures { λ _. ⌜ now (out .exit) ≡ over (rowsIn recipe (serving «before_luma» «cur_luma» «after_luma») (serving «before_cb» «cur_cb» «after_cb») (serving «before_cr» «cur_cr» «after_cr»)) (now (out .entry)) ⌝ }
-{
-    let making = recipe.luma;
-    let shape = making.cur;
-    let mut from: u16 = 0;
-    while from < shape.height {
-        let count = group(shape.height - from);
-        let at = bytes_of(from, shape.width);
-        let to = at + bytes_of(count, shape.width);
-        paint_group(
-            &mut out[at..to],
+    let mut left: u16 = 0;
+    while left < shape.width {
+        let columns = at_most(shape.width - left, 512);
+        let place = fill::Place {
+            top: from,
+            height: count,
+            left: left,
+            width: columns,
+        };
+        paint_tile(
+            out,
             recipe,
             before_luma,
             cur_luma,
@@ -263,17 +293,12 @@ fn paint_groups(
             before_cr,
             cur_cr,
             after_cr,
-            from,
-            count,
-            luma,
-            cb,
-            cr,
+            place,
         );
-        from += count;
+        left += columns;
     }
 }
 
-// The places for samples are made once for all rows.
 fn paint(
     out: &mut [u8],
     recipe: Recipe,
@@ -291,25 +316,30 @@ fn paint(
     requires { ⌜ recipe .luma .cur .height * (recipe .luma .cur .width * 4) ≤ length (now out) ⌝ }
     ensures { λ _. ⌜ now (out .exit) ≡ over (rowsIn recipe (serving «before_luma» «cur_luma» «after_luma») (serving «before_cb» «cur_cb» «after_cb») (serving «before_cr» «cur_cr» «after_cr»)) (now (out .entry)) ⌝ }
 {
-    let mut luma = [0.0f32; 65536];
-    let mut cb = [0.0f32; 16384];
-    let mut cr = [0.0f32; 16384];
-    paint_groups(
-        out,
-        recipe,
-        before_luma,
-        cur_luma,
-        after_luma,
-        before_cb,
-        cur_cb,
-        after_cb,
-        before_cr,
-        cur_cr,
-        after_cr,
-        &mut luma[0..65536],
-        &mut cb[0..16384],
-        &mut cr[0..16384],
-    );
+    let making = recipe.luma;
+    let shape = making.cur;
+    let mut from: u16 = 0;
+    while from < shape.height {
+        let count = at_most(shape.height - from, 8);
+        let at = bytes_of(from, shape.width);
+        let to = at + bytes_of(count, shape.width);
+        paint_group(
+            &mut out[at..to],
+            recipe,
+            before_luma,
+            cur_luma,
+            after_luma,
+            before_cb,
+            cur_cb,
+            after_cb,
+            before_cr,
+            cur_cr,
+            after_cr,
+            from,
+            count,
+        );
+        from += count;
+    }
 }
 
 // ---- which frames serve

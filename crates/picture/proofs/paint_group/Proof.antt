@@ -1,137 +1,132 @@
-use mathlib.Core.Path.{_≡_, ap, _∙_}
-use Prim.Native.Nat.{ℕ, _+_, _*_, _/_, _%_, _≤_}
-use native.Mathlib.Nat.{mul-le-mul}
+use mathlib.Core.Path.{_≡_, refl, _∙_}
+use Prim.Native.Nat.{ℕ, _+_, _-_, _*_, _%_, _≤_, _<_}
 use native.Mathlib.Omega.{arith}
 use borrow.Author.Needs.{needs}
-use denote.Ref.{now}
-use Rattle.plane.specs.Plane.{half}
-use Rattle.picture.specs.declared.Recipe.{Recipe}
-use Rattle.picture.specs.Inner.{Serving, servingIn, Paintable}
-use Rattle.picture.proofs.Painted.{group-rows}
+use lib.ListN.{length}
+use Rattle.picture.specs.Inner.{rowIn, Painted}
+use Rattle.picture.proofs.Painted.{length-row}
+use Rattle.picture.proofs.Tiles.{painted-none, painted-to, painted-whole}
 use Rattle.picture.proofs.paint_group.Statement.{statement}
 use Rattle.picture.proofs.paint_group.Tie as tie
 
--- the call's own values, and the planes that serve
-abbrev entry : tie.After-conversion → tie.Start
-entry s = s .before .before .before .before .before .before .before .before .before .before .before .before .before .before .before .before
+-- the columns so far stand in every row, and the next tile starts at an even column
+abbrev Inv-loop : tie.InvT-loop
+Inv-loop out₀ recipe before-luma cur-luma after-luma before-cb cur-cb after-cb before-cr cur-cr after-cr from count shape left₀ out left =
+    Painted
+    (λ y.
+    rowIn recipe (record { before = before-luma; cur = cur-luma; after = after-luma }) (record { before = before-cb; cur = cur-cb; after = after-cb })
+    (record { before = before-cr; cur = cur-cr; after = after-cr }) (from + y))
+    count (recipe .luma .cur .width * 4) (left * 4) out
+    × (length out ≡ length out₀) × (left < recipe .luma .cur .width → left % 2 ≡ 0) × (left ≤ recipe .luma .cur .width)
 
-abbrev lumas : tie.After-conversion → Serving
-lumas s = let a = entry s .args in servingIn (a .before-luma) (a .cur-luma) (a .after-luma)
+abbrev μ-loop : tie.MeasureT-loop
+μ-loop out₀ recipe before-luma cur-luma after-luma before-cb cur-cb after-cb before-cr cur-cr after-cr from count shape left₀ out left =
+    recipe .luma .cur .width - left
 
-abbrev cbs : tie.After-conversion → Serving
-cbs s = let a = entry s .args in servingIn (a .before-cb) (a .cur-cb) (a .after-cb)
+-- the call's own values
+abbrev entry : tie.At-loop Inv-loop μ-loop → tie.Start Inv-loop μ-loop
+entry l = l .before .before .before .before .before .before .before .before .before .before .before .before .before
 
-abbrev crs : tie.After-conversion → Serving
-crs s = let a = entry s .args in servingIn (a .before-cr) (a .cur-cr) (a .after-cr)
+-- a tile: its columns
+record Turn (left columns width : ℕ) : Type 0 where
+  few : columns ≤ 512
+  some : 1 ≤ columns
+  inside : left + columns ≤ width
+  even : left % 2 ≡ 0
+  stays-even : left + columns < width → (left + columns) % 2 ≡ 0
 
--- that the bands lie within, and have room
-record Within (r : Recipe) (from count : ℕ) : Type 0 where
-  luma-inside : from + count ≤ r .luma .cur .height
-  luma-room : count * r .luma .cur .width ≤ 65536
-  cb-inside : from / 2 + half count ≤ r .cb .cur .height
-  cb-room : half count * r .cb .cur .width ≤ 16384
-  cr-inside : from / 2 + half count ≤ r .cr .cur .height
-  cr-room : half count * r .cr .cur .width ≤ 16384
-  chroma-room : half count * half (r .luma .cur .width) ≤ 16384
+turns :
+    (left columns width : ℕ) → left < width → left % 2 ≡ 0 →
+    (columns ≤ 512) × (columns ≤ width - left) × (1 ≤ width - left → 1 ≤ 512 → 1 ≤ columns) × (columns < width - left → columns ≡ 512) → Turn left columns width
+turns left columns width below even g = record {
+  few = g .0;
+  some = g .2 (omega arith) (omega arith);
+  inside = omega (arith, g .1);
+  even = even;
+  stays-even = λ l. stays (g .3 (omega arith));
+}
+  where
+    stays : columns ≡ 512 → (left + columns) % 2 ≡ 0
+    stays e = omega arith
 
-bands-within :
-    {r : Recipe} {luma cb cr : Serving} (from count : ℕ) → Paintable r luma cb cr → from % 2 ≡ 0 → from + count ≤ r .luma .cur .height → count ≤ 8 →
-    Within r from count
-bands-within {r} from count p even inside few =
-    let chroma-inside : from / 2 + half count ≤ half (r .luma .cur .height) = omega arith in
-    let few-chroma : half count ≤ 4 = omega arith in
-    let wide-chroma : half (r .luma .cur .width) ≤ 4096 = omega (arith, p .width-high) in
-    let room : half count * half (r .luma .cur .width) ≤ 16384 = mul-le-mul few-chroma wide-chroma in
-    record {
-      luma-inside = inside;
-      luma-room = mul-le-mul few (p .width-high);
-      cb-inside = omega (arith, chroma-inside, p .cb-height);
-      cb-room = omega (arith, room, ap (λ (n : ℕ). half count * n) (p .cb-width));
-      cr-inside = omega (arith, chroma-inside, p .cr-height);
-      cr-room = omega (arith, room, ap (λ (n : ℕ). half count * n) (p .cr-width));
-      chroma-room = room;
-    }
+turn :
+    (c : tie.After-at-most Inv-loop μ-loop) →
+    let l = c .before .before .before .before in
+    Turn (l .loop .left) (c .at-most .result) (entry l .args .recipe .luma .cur .width)
+turn c =
+    let l = c .before .before .before .before in
+    let below = c .before .before .if1 .taken in
+    turns (l .loop .left) (c .at-most .result) (entry l .args .recipe .luma .cur .width) below (l .loop .inv .2 below) (c .at-most .ensures)
 
-within : (s : tie.After-conversion) → Within (entry s .args .recipe) (entry s .args .from) (entry s .args .count)
-within s =
-    let z = entry s in
-    let asked = z .pre .1 .0 in
-    bands-within (z .args .from) (z .args .count) (z .pre .0) (asked .0) (asked .1) (asked .2)
+loop-holds : tie.Need-loop-holds Inv-loop μ-loop
+loop-holds c = (painted-none, refl, λ l. omega arith, omega arith)
 
-add-chroma-count : tie.Need-add-chroma-count
-add-chroma-count c = search needs
+sub-at-most : tie.Need-sub-at-most Inv-loop μ-loop
+sub-at-most c = omega (arith, c .before .if1 .taken)
 
-samples-requires : tie.Need-samples-requires
-samples-requires c κs =
-    let s = c .before in
-    let z = entry s in
-    (z .pre .0 .lumas, (within s .luma-inside, omega (arith, within s .luma-room, z .pre .1 .1 .luma-room)))
+at-most-requires : tie.Need-at-most-requires Inv-loop μ-loop
+at-most-requires c κs = search needs
 
-samples-requires-2 : tie.Need-samples-requires-2
-samples-requires-2 c κs =
-    let s = c .before .before .before .before .before in
-    let z = entry s in
-    (z .pre .0 .cbs, (within s .cb-inside, omega (arith, within s .cb-room, z .pre .1 .1 .cb-room)))
-
-samples-requires-3 : tie.Need-samples-requires-3
-samples-requires-3 c κs =
-    let s = c .before .before .before .before .before .before .before .before .before in
-    let z = entry s in
-    (z .pre .0 .crs, (within s .cr-inside, omega (arith, within s .cr-room, z .pre .1 .1 .cr-room)))
-
-cast-paint-rows : tie.Need-cast-paint-rows
-cast-paint-rows c = search needs
-
-paint-rows-requires : tie.Need-paint-rows-requires
-paint-rows-requires c κs =
-    let s = c .before .before .before .before .before .before .before .before .before .before .before .before .before .before .before .before .before in
-    let z = entry s in
-    let w = within s in
-    let rooms = z .pre .1 .1 in
-    let luma-kept = c .before .before .before .before .before .before .before .before .before .before .before .before .before .before .luma .given in
-    let cb-kept = c .before .before .before .before .before .before .before .before .before .before .cb .given in
-    let cr-kept = c .before .before .before .before .before .before .cr .given in (
-      (z .pre .0 .width-high, z .pre .1 .0 .2, z .pre .1 .0 .3),
+paint-tile-requires : tie.Need-paint-tile-requires Inv-loop μ-loop
+paint-tile-requires c κs =
+    let l = c .before .before .before .before .before in
+    let z = entry l in
+    let t = turn (c .before) in (
+      z .pre .0,
       (
-        omega (arith, w .luma-room, rooms .luma-room, luma-kept),
-        omega (arith, w .chroma-room, rooms .cb-room, cb-kept),
-        omega (arith, w .chroma-room, rooms .cr-room, cr-kept),
+        record {
+          inside = record { rows = z .pre .1 .1; columns = t .inside };
+          few-rows = z .pre .1 .2;
+          few-columns = t .few;
+          even-row = z .pre .1 .0;
+          even-column = t .even;
+          room = l .loop .inv .1 ∙ z .pre .1 .3;
+        },
+        l .loop .inv .0,
       ),
     )
 
-same-length : tie.Need-same-length
-same-length c = search needs
+add-left : tie.Need-add-left Inv-loop μ-loop
+add-left c = omega (arith, turn (c .before .before .before .before), entry (c .before .before .before .before .before .before .before .before) .pre .0 .width-high)
 
-same-length-2 : tie.Need-same-length-2
-same-length-2 c = search needs
+loop-less : tie.Need-loop-less Inv-loop μ-loop
+loop-less c = omega (arith, turn (c .before .before .before .before))
 
-same-length-3 : tie.Need-same-length-3
-same-length-3 c = search needs
+loop-again : tie.Need-loop-again Inv-loop μ-loop
+loop-again c =
+    let l = c .before .before .before .before .before .before .before .before in
+    let t = turn (c .before .before .before .before) in
+    let further : l .loop .left * 4 + c .before .before .before .before .at-most .result * 4 ≡ (l .loop .left + c .before .before .before .before .at-most .result) * 4 = omega arith in (
+      painted-to further (c .before .before .paint-tile .ensures),
+      c .before .out .given ∙ l .loop .inv .1,
+      t .stays-even,
+      t .inside,
+    )
 
-same-length-4 : tie.Need-same-length-4
-same-length-4 c = search needs
+same-length : tie.Need-same-length Inv-loop μ-loop
+same-length c = c .before .before .loop .inv .1
 
-returns : tie.Need-returns
+returns : tie.Need-returns Inv-loop μ-loop
 returns c =
-    let s = c .before .before .before .before .before .before .before .before .before .before .before .before .before .before .before .before .before .before .before .before in
-    let z = entry s in
-    let a = z .args in
-    c .before .before .paint-rows .ensures
-    ∙ group-rows (a .recipe) (lumas s) (cbs s) (crs s) (a .from) (a .count) _ _ _ (now (a .luma)) (now (a .cb)) (now (a .cr)) (z .pre .0) (z .pre .1 .0 .0)
-    (c .before .before .before .before .before .before .before .before .before .before .before .before .before .before .before .before .before .before .samples .ensures) (c .before .before .before .before .before .before .before .before .before .before .before .before .before .before .samples2 .ensures) (c .before .before .before .before .before .before .before .before .before .before .samples3 .ensures)
+    let l = c .before .before in
+    let z = entry l in
+    let w = z .args .recipe .luma .cur .width in
+    let all : l .loop .left * 4 ≡ w * 4 = omega (arith, l .loop .inv .3, c .if1 .left) in
+    painted-whole (w * 4) (λ y. length-row _ _ _ _ _) (l .loop .inv .1 ∙ z .pre .1 .3)
+    (painted-to all (l .loop .inv .0))
 
 pub paint-group-spec : {M : Type 1} → statement M
 paint-group-spec =
     tie.close
     (tie.spec
-    add-chroma-count
-    samples-requires
-    samples-requires-2
-    samples-requires-3
-    cast-paint-rows
-    paint-rows-requires
+    Inv-loop
+    μ-loop
+    loop-holds
+    sub-at-most
+    at-most-requires
+    paint-tile-requires
+    add-left
+    loop-less
+    loop-again
     same-length
-    same-length-2
-    same-length-3
-    same-length-4
     returns)

@@ -1,37 +1,41 @@
-use mathlib.Core.Path.{_≡_, refl, sym, ap, _∙_}
-use mathlib.Core.List.{List}
+use mathlib.Core.Path.{_≡_, sym, ap, _∙_}
 use Prim.Native.Nat.{ℕ, _+_, _-_, _*_, _/_, _≤_, _<_}
-use native.Mathlib.Nat.{le-of-eq, mul-le-mul}
+use native.Mathlib.Nat.{mul-le-mul}
 use native.Mathlib.Omega.{arith}
-use lib.ListN.{length, take, drop, length-take, length-drop}
+use mathlib.Core.List.{List}
+use borrow.Author.Needs.{needs}
+use lib.ListN.{length}
 use denote.Ref.{now}
-use Rattle.laws.proofs.Lists.{Stacked, stack-starts, stacks, stack-ends, length-laid}
-use Rattle.laws.proofs.Rows.{length-part, over-all, row-within}
+use Rattle.laws.proofs.Lists.{part-length}
+use Rattle.laws.proofs.Rows.{length-part, row-within}
 use Rattle.plane.specs.Plane.{half}
-use Rattle.picture.specs.Inner.{paintedRow, paintedAt}
+use Rattle.picture.specs.Inner.{paintedRow, paintedAt, Tiled}
 use Rattle.picture.proofs.Painted.{length-painted}
+use Rattle.picture.proofs.Tiles.{tile-starts, tile-row}
 use Rattle.picture.proofs.paint_rows.Statement.{statement}
 use Rattle.picture.proofs.paint_rows.Tie as tie
 
 abbrev Inv-loop : tie.InvT-loop
-Inv-loop out₀ conversion width count luma cb cr chroma-width y₀ out y = Stacked (paintedAt conversion width luma cb cr) (width * 4) count out₀ out y
+Inv-loop out₀ conversion stride luma cb cr width count left span chroma-width y₀ out y = Tiled (paintedAt conversion width luma cb cr) count stride left span out₀ out y
 
 abbrev μ-loop : tie.MeasureT-loop
-μ-loop out₀ conversion width count luma cb cr chroma-width y₀ out y = count - y
+μ-loop out₀ conversion stride luma cb cr width count left span chroma-width y₀ out y = count - y
 
 abbrev entry : tie.At-loop Inv-loop μ-loop → tie.Start Inv-loop μ-loop
-entry l = l .before .before .before .before .before
+entry l = l .before .before .before .before .before .before .before .before
 
 -- where a row of each list starts, and that it ends within
-record Within (y width count luma cb cr out : ℕ) : Type 0 where
+record Within (y width count stride left luma cb cr out : ℕ) : Type 0 where
   inside : y < count
   few : count ≤ 8
-  width-high : width ≤ 8192
-  out-start : y * (width * 4) ≤ 8 * 32768
-  out-end : y * (width * 4) + width * 4 ≤ out
-  luma-start : y * width ≤ 8 * 8192
+  width-high : width ≤ 512
+  left-high : left * 4 + width * 4 ≤ stride
+  stride-high : stride ≤ 32768
+  out-start : y * stride ≤ 8 * 32768
+  out-end : y * stride + stride ≤ out
+  luma-start : y * width ≤ 8 * 512
   luma-end : y * width + width ≤ luma
-  chroma-start : y / 2 * half width ≤ 4 * 4096
+  chroma-start : y / 2 * half width ≤ 4 * 256
   cb-end : y / 2 * half width + half width ≤ cb
   cr-end : y / 2 * half width + half width ≤ cr
 
@@ -39,51 +43,63 @@ within :
     (c : tie.In-loop Inv-loop μ-loop) →
     let l = c .before in
     let a = entry l .args in
-    Within (l .loop .y) (a .width) (a .count) (length (now (a .luma))) (length (now (a .cb))) (length (now (a .cr))) (length (l .loop .out))
+    Within (l .loop .y) (a .place .width) (a .place .height) (a .stride) (a .place .left) (length (now (a .luma))) (length (now (a .cb))) (length (now (a .cr)))
+    (length (l .loop .out))
 within c =
     let l = c .before in
     let z = entry l in
     let a = z .args in
+    let fits = z .pre .0 in
+    let made = z .pre .1 in
     let y = l .loop .y in
-    let few : y ≤ 8 = omega (arith, c .loop-test .taken, z .pre .0 .1) in
+    let few : y ≤ 8 = omega (arith, c .loop-test .taken, fits .rows-high) in
     let few-chroma : y / 2 ≤ 4 = omega arith in
-    let wide : a .width ≤ 8192 = z .pre .0 .0 in
-    let wide-out : a .width * 4 ≤ 32768 = omega arith in
-    let wide-chroma : half (a .width) ≤ 4096 = omega arith in
-    let chroma-inside : y / 2 < half (a .count) = omega (arith, c .loop-test .taken) in
+    let wide-chroma : half (a .place .width) ≤ 256 = omega (arith, fits .columns-high) in
+    let chroma-inside : y / 2 < half (a .place .height) = omega (arith, c .loop-test .taken) in
     record {
       inside = c .loop-test .taken;
-      few = z .pre .0 .1;
-      width-high = wide;
-      out-start = mul-le-mul few wide-out;
-      out-end = row-within y (a .count) (a .width * 4) (length (l .loop .out)) (c .loop-test .taken) (le-of-eq (sym (l .loop .inv .long ∙ z .pre .0 .2)));
-      luma-start = mul-le-mul few wide;
-      luma-end = row-within y (a .count) (a .width) (length (now (a .luma))) (c .loop-test .taken) (z .pre .1 .0);
+      few = fits .rows-high;
+      width-high = fits .columns-high;
+      left-high = fits .columns-within;
+      stride-high = fits .stride-high;
+      out-start = mul-le-mul few (fits .stride-high);
+      out-end = row-within y (a .place .height) (a .stride) (length (l .loop .out)) (c .loop-test .taken) (omega (arith, fits .rows-within, l .loop .inv .long));
+      luma-start = mul-le-mul few (fits .columns-high);
+      luma-end = row-within y (a .place .height) (a .place .width) (length (now (a .luma))) (c .loop-test .taken) (made .luma-made);
       chroma-start = mul-le-mul few-chroma wide-chroma;
-      cb-end = row-within (y / 2) (half (a .count)) (half (a .width)) (length (now (a .cb))) chroma-inside (z .pre .1 .1);
-      cr-end = row-within (y / 2) (half (a .count)) (half (a .width)) (length (now (a .cr))) chroma-inside (z .pre .1 .2);
+      cb-end = row-within (y / 2) (half (a .place .height)) (half (a .place .width)) (length (now (a .cb))) chroma-inside (made .cb-made);
+      cr-end = row-within (y / 2) (half (a .place .height)) (half (a .place .width)) (length (now (a .cr))) chroma-inside (made .cr-made);
     }
 
-long-part : {A : Type 0} (start n : ℕ) (xs : List A) → start + n ≤ length xs → length (take n (drop start xs)) ≡ n
-long-part start n xs l = simp (length-take, length-drop) (omega arith)
+cast-width : tie.Need-cast-width Inv-loop μ-loop
+cast-width c = search needs
+
+cast-count : tie.Need-cast-count Inv-loop μ-loop
+cast-count c = search needs
+
+cast-left : tie.Need-cast-left Inv-loop μ-loop
+cast-left c = search needs
+
+mul-left : tie.Need-mul-left Inv-loop μ-loop
+mul-left c = search needs
+
+mul-span : tie.Need-mul-span Inv-loop μ-loop
+mul-span c = search needs
 
 add-chroma-width : tie.Need-add-chroma-width Inv-loop μ-loop
-add-chroma-width c = omega (arith, c .before .before .before .before .pre .0 .0)
+add-chroma-width c = search needs
 
 loop-holds : tie.Need-loop-holds Inv-loop μ-loop
-loop-holds c = stack-starts (λ y. length-painted _ _ _ _ _)
+loop-holds c = tile-starts
 
 mul-at : tie.Need-mul-at Inv-loop μ-loop
 mul-at c = omega (arith, within c)
 
-mul-at-2 : tie.Need-mul-at-2 Inv-loop μ-loop
-mul-at-2 c = omega (arith, within c)
+add-at : tie.Need-add-at Inv-loop μ-loop
+add-at c = omega (arith, within c)
 
 mul-chroma-at : tie.Need-mul-chroma-at Inv-loop μ-loop
 mul-chroma-at c = omega (arith, within c)
-
-mul-paint-row : tie.Need-mul-paint-row Inv-loop μ-loop
-mul-paint-row c = omega (arith, within c)
 
 add-paint-row : tie.Need-add-paint-row Inv-loop μ-loop
 add-paint-row c = omega (arith, within c)
@@ -109,35 +125,27 @@ part-at-requires-2 c κs = within (c .before .before) .cb-end
 part-at-requires-3 : tie.Need-part-at-requires-3 Inv-loop μ-loop
 part-at-requires-3 c κs = within (c .before .before .before) .cr-end
 
--- the lines of samples that are lent are as wide as the planes
-luma-long : (c : tie.After-part-at Inv-loop μ-loop) → length (now (c .part-at .result)) ≡ entry (c .before .before .before) .args .width
-luma-long c =
-    let l = c .before .before .before in
-    let a = entry l .args in
-    ap length (c .part-at .ensures) ∙ long-part (l .loop .y * a .width) (a .width) (now (a .luma)) (within (c .before .before) .luma-end)
+-- the lines of samples that are lent are as wide as the tile
+luma-long : (c : tie.After-part-at Inv-loop μ-loop) → length (now (c .part-at .result)) ≡ entry (c .before .before .before) .args .place .width
+luma-long c = ap length (c .part-at .ensures) ∙ part-length _ _ _ (within (c .before .before) .luma-end)
 
-cb-long : (c : tie.After-part-at2 Inv-loop μ-loop) → length (now (c .part-at2 .result)) ≡ half (entry (c .before .before .before .before) .args .width)
-cb-long c =
-    let l = c .before .before .before .before in
-    let a = entry l .args in
-    ap length (c .part-at2 .ensures) ∙ long-part (l .loop .y / 2 * half (a .width)) (half (a .width)) (now (a .cb)) (within (c .before .before .before) .cb-end)
+cb-long : (c : tie.After-part-at2 Inv-loop μ-loop) → length (now (c .part-at2 .result)) ≡ half (entry (c .before .before .before .before) .args .place .width)
+cb-long c = ap length (c .part-at2 .ensures) ∙ part-length _ _ _ (within (c .before .before .before) .cb-end)
 
-cr-long : (c : tie.After-part-at3 Inv-loop μ-loop) → length (now (c .part-at3 .result)) ≡ half (entry (c .before .before .before .before .before) .args .width)
-cr-long c =
-    let l = c .before .before .before .before .before in
-    let a = entry l .args in
-    ap length (c .part-at3 .ensures)
-    ∙ long-part (l .loop .y / 2 * half (a .width)) (half (a .width)) (now (a .cr)) (within (c .before .before .before .before) .cr-end)
+cr-long : (c : tie.After-part-at3 Inv-loop μ-loop) → length (now (c .part-at3 .result)) ≡ half (entry (c .before .before .before .before .before) .args .place .width)
+cr-long c = ap length (c .part-at3 .ensures) ∙ part-length _ _ _ (within (c .before .before .before .before) .cr-end)
 
 paint-row-requires : tie.Need-paint-row-requires Inv-loop μ-loop
 paint-row-requires c κs =
     let turn = c .before .before .before .before in
     let l = turn .before in
-    let w = entry l .args .width in
+    let a = entry l .args in
+    let w = within turn in
     let wide = luma-long (c .before .before) in
     let halves = ap half (sym wide) in (
-      omega (arith, wide, entry l .pre .0 .0),
-      length-part (l .loop .y * (w * 4)) (w * 4) (l .loop .out) (within turn .out-end) ∙ ap (λ (n : ℕ). n * 4) (sym wide),
+      omega (arith, wide, w .width-high),
+      length-part (l .loop .y * a .stride + a .place .left * 4) (a .place .width * 4) (l .loop .out) (omega (arith, w .out-end, w .left-high))
+          ∙ ap (λ (n : ℕ). n * 4) (sym wide),
       cb-long (c .before) ∙ halves,
       cr-long c ∙ halves,
     )
@@ -154,23 +162,22 @@ loop-again c =
     let turn = painted .before .before .before .before .before in
     let l = turn .before in
     let z = entry l in
-    stacks (λ y. length-painted _ _ _ _ _) (l .loop .inv) (turn .loop-test .taken) (le-of-eq (sym (z .pre .0 .2))) refl
+    tile-row (z .pre .0 .columns-within) (z .pre .0 .rows-within) (l .loop .inv) (turn .loop-test .taken)
     (painted .paint-row .ensures
     ∙ (λ i.
     paintedRow (z .args .conversion) (luma-long (painted .before .before .before) i) (painted .before .before .before .part-at .ensures i)
     (painted .before .before .part-at2 .ensures i) (painted .before .part-at3 .ensures i)))
+    (length-painted _ _ _ _ _)
 
 same-length : tie.Need-same-length Inv-loop μ-loop
 same-length c = c .before .loop .inv .long
 
+-- the last row is done
+all : {part : ℕ → List ℕ} {count stride left span : ℕ} {old new : List ℕ} {y : ℕ} → Tiled part count stride left span old new y → count ≤ y → Tiled part count stride left span old new count
+all t h = record { long = t .long; kept = t .kept; put = λ y j l m. t .put y j (omega (arith, l, h)) m }
+
 returns : tie.Need-returns Inv-loop μ-loop
-returns c =
-    let l = c .before in
-    let z = entry l in
-    let a = z .args in
-    let whole =
-    length-laid (paintedAt (a .conversion) (a .width) (now (a .luma)) (now (a .cb)) (now (a .cr))) (a .width * 4) (λ y. length-painted _ _ _ _ _) (a .count) in
-    stack-ends (λ y. length-painted _ _ _ _ _) (l .loop .inv) (omega arith) ∙ over-all _ (now (a .out)) (z .pre .0 .2 ∙ sym whole)
+returns c = all (c .before .loop .inv) (omega (arith, c .loop-test .left))
 
 pub paint-rows-spec : {M : Type 1} → statement M
 paint-rows-spec =
@@ -178,12 +185,16 @@ paint-rows-spec =
     (tie.spec
     Inv-loop
     μ-loop
+    cast-width
+    cast-count
+    cast-left
+    mul-left
+    mul-span
     add-chroma-width
     loop-holds
     mul-at
-    mul-at-2
+    add-at
     mul-chroma-at
-    mul-paint-row
     add-paint-row
     sub-paint-row
     part-paint-row-start
