@@ -5,13 +5,13 @@ use mathlib.Core.Bool.{Bool, true, _&&_}
 use mathlib.Core.List.{List, [], _∷_}
 use lib.Dec.{leb, lit<}
 use lib.IntN.{ℤ}
+use Rattle.laws.proofs.Bools.{halves}
 use Rattle.laws.specs.Refusal.{lowest, written}
 use Rattle.laws.proofs.Refusal.{first-passes, rest-passes, lowest-behind, lowest-alike, written-alike}
 use Rattle.plane.specs.declared.Shape.{Shape}
 use Rattle.plane.specs.declared.Layout.the-variants.{Planar}
 use Rattle.plane.specs.Plane.{goodShape}
 use Rattle.plane.specs.Answer.{readTests}
-use Rattle.plane.proofs.Coordinates.{both-inside}
 use Rattle.filter.specs.declared.Making.{Making}
 use Rattle.filter.specs.Making.{planesGood}
 use Rattle.filter.specs.Answer.{planesTests, sampleTests}
@@ -49,8 +49,8 @@ module _ (m : Making) where
 
   planes-same : planesGood m ≡ true → cutPlanes m ≡ m
   planes-same g =
-      let first = both-inside (goodShape (m .before) && goodShape (m .cur)) (goodShape (m .after)) g in
-      let second = both-inside (goodShape (m .before)) (goodShape (m .cur)) (first .0) in
+      let first = halves (goodShape (m .before) && goodShape (m .cur)) (goodShape (m .after)) g in
+      let second = halves (goodShape (m .before)) (goodShape (m .cur)) (first .0) in
       λ i. record {
         quality = m .quality;
         rows = m .rows;
@@ -112,9 +112,9 @@ module _ (width height bytes : ℕ) where
 
   sizes-same : sizesGood width height ≡ true → (min width 65535 ≡ width) × (min height 65535 ≡ height)
   sizes-same g =
-      let tall = both-inside (leb 1 width && leb width 8192 && leb 1 height) (leb height 4352) g in
-      let wide = both-inside (leb 1 width && leb width 8192) (leb 1 height) (tall .0) in
-      (uncut width 8192 (lit< tt) (both-inside (leb 1 width) (leb width 8192) (wide .0) .1), uncut height 4352 (lit< tt) (tall .1))
+      let tall = halves (leb 1 width && leb width 8192 && leb 1 height) (leb height 4352) g in
+      let wide = halves (leb 1 width && leb width 8192) (leb 1 height) (tall .0) in
+      (uncut width 8192 (lit< tt) (halves (leb 1 width) (leb width 8192) (wide .0) .1), uncut height 4352 (lit< tt) (tall .1))
 
   pub rgba-number : rgbaNo (min width 65535) (min height 65535) bytes ≡ rgbaNo width height bytes
   rgba-number = lowest-alike 4 _ _ sizes-good (λ g. λ i. rgbaNo (sizes-same g .0 i) (sizes-same g .1 i) bytes)

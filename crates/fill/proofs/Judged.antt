@@ -8,12 +8,12 @@ use native.Mathlib.Nat.{zero-add}
 use native.Mathlib.Omega.{arith}
 use borrow.Author.Tests.{leb-true, eqb-true, le-leb}
 use lib.Dec.{leb, eqb}
+use Rattle.laws.proofs.Bools.{halves}
 use Rattle.laws.specs.Refusal.{lowest, rising}
 use Rattle.laws.proofs.Refusal.{AllPass, all-pass}
 use Rattle.plane.specs.declared.Shape.{Shape}
 use Rattle.plane.specs.Plane.{goodShape, planeBytes, agree}
 use Rattle.plane.proofs.Bounds.{good-within}
-use Rattle.plane.proofs.Coordinates.{both-inside}
 use Rattle.filter.specs.declared.Making.{Making}
 use Rattle.filter.specs.Filter.{Sampler}
 use Rattle.filter.specs.Rows.{goodRows}
@@ -36,8 +36,8 @@ lent s bytes g b =
 
 alike : (a b : Shape) → agree a b ≡ true → (a .width ≡ b .width) × (a .height ≡ b .height)
 alike a b h =
-    let to-depth = both-inside (eqb (a .width) (b .width) && eqb (a .height) (b .height)) (eqb (a .depth) (b .depth)) h in
-    let sizes = both-inside (eqb (a .width) (b .width)) (eqb (a .height) (b .height)) (to-depth .0) in
+    let to-depth = halves (eqb (a .width) (b .width) && eqb (a .height) (b .height)) (eqb (a .depth) (b .depth)) h in
+    let sizes = halves (eqb (a .width) (b .width)) (eqb (a .height) (b .height)) (to-depth .0) in
     (eqb-true (a .width) (b .width) (sizes .0), eqb-true (a .height) (b .height) (sizes .1))
 
 module _ (making : Making) (place : Place) (before cur after room : ℕ) where
@@ -53,17 +53,17 @@ module _ (making : Making) (place : Place) (before cur after room : ℕ) where
       let all = passed done in
       let high = leb (place .top + place .height) (making .cur .height) in
       let wide = leb (place .left + place .width) (making .cur .width) in
-      let columns = both-inside (goodRows (making .rows) && high) wide (all .0) in
-      let rows = both-inside (goodRows (making .rows)) high (columns .0) in
-      let shapes = both-inside (goodShape (making .before) && goodShape (making .cur)) (goodShape (making .after)) (all .1 .0) in
-      let two-shapes = both-inside (goodShape (making .before)) (goodShape (making .cur)) (shapes .0) in
-      let sizes = both-inside (agree (making .cur) (making .before)) (agree (making .cur) (making .after)) (all .1 .1 .0) in
+      let columns = halves (goodRows (making .rows) && high) wide (all .0) in
+      let rows = halves (goodRows (making .rows)) high (columns .0) in
+      let shapes = halves (goodShape (making .before) && goodShape (making .cur)) (goodShape (making .after)) (all .1 .0) in
+      let two-shapes = halves (goodShape (making .before)) (goodShape (making .cur)) (shapes .0) in
+      let sizes = halves (agree (making .cur) (making .before)) (agree (making .cur) (making .after)) (all .1 .1 .0) in
       let past = alike (making .cur) (making .before) (sizes .0) in
       let coming = alike (making .cur) (making .after) (sizes .1) in
       let earlier = leb (planeBytes (making .before)) before in
       let now = leb (planeBytes (making .cur)) cur in
-      let bytes = both-inside (earlier && now) (leb (planeBytes (making .after)) after) (all .1 .1 .1 .0) in
-      let two-bytes = both-inside earlier now (bytes .0) in (
+      let bytes = halves (earlier && now) (leb (planeBytes (making .after)) after) (all .1 .1 .1 .0) in
+      let two-bytes = halves earlier now (bytes .0) in (
         record {
           before-lent = lent (making .before) before (two-shapes .0) (two-bytes .0);
           cur-lent = lent (making .cur) cur (two-shapes .1) (two-bytes .1);

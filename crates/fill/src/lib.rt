@@ -16,7 +16,7 @@ ghost use Rattle.laws.specs.Refusal.{written};
 ghost use Rattle.laws.specs.Rows.{listed, over};
 ghost use Rattle.plane.specs.Plane.{sampleBytes, storedAt, valueOf};
 ghost use Rattle.plane.specs.Coordinates.{held};
-ghost use Rattle.filter.specs.Filter.{Sampler, one, three, bobOf, inMotionOf, scoreOf, nearOf, yadifOf, bwdifOf};
+ghost use Rattle.filter.specs.Filter.{Sampler, one, bobOf, inMotionOf, scoreOf, nearOf, yadifOf, bwdifOf};
 ghost use Rattle.filter.specs.Held.{step};
 ghost use Rattle.fill.specs.Fill.{partNo, partMade, planeNo, planeMade};
 ghost use Rattle.fill.specs.Rows.{RowOf, Around, Trio, Motion, Under, alongOf};

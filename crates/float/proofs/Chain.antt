@@ -6,7 +6,7 @@ use Prim.Native.Nat.{ℕ, _+_, _*_, _≤_, _<_}
 use native.Mathlib.Nat.{zero-mul, eq-zero-or-pos, le-of-lt, le-of-eq, lt-of-le-of-lt, lt-of-lt-of-le, mul-pos, mul-right-comm, mul-le-mul-right, mul-lt-mul-of-pos-right, lt-of-mul-lt-mul-right}
 use native.Mathlib.Omega.{arith}
 use lib.Dec.{T, ltb, eqb, eqb→eq, ltb→lt, lt→ltb}
-use lib.Ieee.{Float, nan, inf, fin, up, down, lt, eq, le}
+use lib.Ieee.{Float, inf, fin, up, down, lt, eq, le}
 use lib.Ieee.Fits.{down-pos}
 use lib.Ieee.Scale.{finite}
 use Rattle.float.proofs.Order.{at-most, le-of-not-lt}

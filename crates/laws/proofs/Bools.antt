@@ -18,6 +18,9 @@ pub and-right : (a b : Bool) → a && b ≡ true → b ≡ true
 and-right true b e = e
 and-right false b e = clash e refl
 
+pub halves : (a b : Bool) → a && b ≡ true → (a ≡ true) × (b ≡ true)
+halves a b e = (and-left a b e, and-right a b e)
+
 pub and-both : (a b : Bool) → a ≡ true → b ≡ true → a && b ≡ true
 and-both a b p q = rw (p, q)
 

@@ -6,13 +6,13 @@ use Prim.Native.Nat.{ℕ, _+_, _*_, _≤_}
 use borrow.Author.Tests.{leb-true, eqb-true, eq-eqb, le-leb}
 use lib.Dec.{leb, eqb}
 use lib.ListN.{length}
+use Rattle.laws.proofs.Bools.{halves}
 use Rattle.laws.specs.Refusal.{lowest, written, rising}
 use Rattle.laws.proofs.Refusal.{AllPass, all-pass}
 use Rattle.field.specs.declared.Source.{Source}
 use Rattle.field.specs.declared.Source.the-variants as source
 use Rattle.plane.specs.declared.Shape.{Shape}
 use Rattle.plane.specs.Plane.{goodShape, planeBytes, agree, half, chromaAgrees}
-use Rattle.plane.proofs.Coordinates.{both-inside}
 use Rattle.plane.proofs.Bounds.{good-within}
 use Rattle.filter.specs.declared.Quality.{Quality}
 use Rattle.filter.specs.declared.Rows.{Rows}
@@ -48,8 +48,8 @@ pub record Alike (a b : Shape) : Type 0 where
 module _ (a b : Shape) where
   alike : agree a b ≡ true → Alike a b
   alike h =
-      let depths = both-inside (eqb (a .width) (b .width) && eqb (a .height) (b .height)) (eqb (a .depth) (b .depth)) h in
-      let sizes = both-inside (eqb (a .width) (b .width)) (eqb (a .height) (b .height)) (depths .0) in
+      let depths = halves (eqb (a .width) (b .width) && eqb (a .height) (b .height)) (eqb (a .depth) (b .depth)) h in
+      let sizes = halves (eqb (a .width) (b .width)) (eqb (a .height) (b .height)) (depths .0) in
       record {
         width = eqb-true (a .width) (b .width) (sizes .0);
         height = eqb-true (a .height) (b .height) (sizes .1);
@@ -92,14 +92,14 @@ serves :
     (f cur : Frame) → goodShapes (f .shapes) ≡ true → agree (f .shapes .luma) (cur .shapes .luma) ≡ true → chromaFits (f .shapes) ≡ true →
     chromaFits (cur .shapes) ≡ true → lent f ≡ true → Serves f cur
 serves f cur good same chroma cur-chroma whole =
-    let goods = both-inside _ (goodShape (f .shapes .cr)) good in
-    let two-goods = both-inside (goodShape (f .shapes .luma)) (goodShape (f .shapes .cb)) (goods .0) in
-    let wholes = both-inside _ (leb (planeBytes (f .shapes .cr)) (length (f .cr))) whole in
+    let goods = halves _ (goodShape (f .shapes .cr)) good in
+    let two-goods = halves (goodShape (f .shapes .luma)) (goodShape (f .shapes .cb)) (goods .0) in
+    let wholes = halves _ (leb (planeBytes (f .shapes .cr)) (length (f .cr))) whole in
     let two-wholes =
-    both-inside (leb (planeBytes (f .shapes .luma)) (length (f .luma))) (leb (planeBytes (f .shapes .cb)) (length (f .cb))) (wholes .0) in
+    halves (leb (planeBytes (f .shapes .luma)) (length (f .luma))) (leb (planeBytes (f .shapes .cb)) (length (f .cb))) (wholes .0) in
     let lumas = alike (f .shapes .luma) (cur .shapes .luma) same in
-    let chromas = both-inside (chromaAgrees (f .shapes .luma) (f .shapes .cb)) (chromaAgrees (f .shapes .luma) (f .shapes .cr)) chroma in
-    let cur-chromas = both-inside (chromaAgrees (cur .shapes .luma) (cur .shapes .cb)) (chromaAgrees (cur .shapes .luma) (cur .shapes .cr)) cur-chroma in
+    let chromas = halves (chromaAgrees (f .shapes .luma) (f .shapes .cb)) (chromaAgrees (f .shapes .luma) (f .shapes .cr)) chroma in
+    let cur-chromas = halves (chromaAgrees (cur .shapes .luma) (cur .shapes .cb)) (chromaAgrees (cur .shapes .luma) (cur .shapes .cr)) cur-chroma in
     let cbs = both-alike lumas (chroma-alike (f .shapes .luma) (f .shapes .cb) (chromas .0)) (chroma-alike (cur .shapes .luma) (cur .shapes .cb) (cur-chromas .0)) in
     let crs = both-alike lumas (chroma-alike (f .shapes .luma) (f .shapes .cr) (chromas .1)) (chroma-alike (cur .shapes .luma) (cur .shapes .cr) (cur-chromas .1)) in
     record {
@@ -154,7 +154,7 @@ module _ (conversion : Conversion) (quality : Quality) (rows : Rows) (asked : go
       (crs before cur after)
   paintable b c a chroma =
       let bounds = good-within (cur .shapes .luma) (c .luma .good) in
-      let chromas = both-inside (chromaAgrees (cur .shapes .luma) (cur .shapes .cb)) (chromaAgrees (cur .shapes .luma) (cur .shapes .cr)) chroma in
+      let chromas = halves (chromaAgrees (cur .shapes .luma) (cur .shapes .cb)) (chromaAgrees (cur .shapes .luma) (cur .shapes .cr)) chroma in
       let cb-halved = chroma-alike (cur .shapes .luma) (cur .shapes .cb) (chromas .0) in
       let cr-halved = chroma-alike (cur .shapes .luma) (cur .shapes .cr) (chromas .1) in
       record {
@@ -180,14 +180,14 @@ module _ (conversion : Conversion) (previous current next : Frame) (room : ℕ) 
       let a = picked after previous current next in
       Paintable (recipeOf conversion quality rows (b .shapes) (current .shapes) (a .shapes)) (lumas b current a) (cbs b current a) (crs b current a)
   judged quality rows asked before after =
-      let goods = both-inside (goodShapes (previous .shapes) && goodShapes (current .shapes)) (goodShapes (next .shapes)) (passed .0) in
-      let two-goods = both-inside (goodShapes (previous .shapes)) (goodShapes (current .shapes)) (goods .0) in
-      let fits = both-inside _ (chromaFits (next .shapes)) (passed .1 .0) in
-      let two-fits = both-inside _ (chromaFits (current .shapes)) (fits .0) in
-      let one-fits = both-inside _ (chromaFits (previous .shapes)) (two-fits .0) in
-      let same = both-inside (agree (previous .shapes .luma) (current .shapes .luma)) (agree (next .shapes .luma) (current .shapes .luma)) (one-fits .0) in
-      let lents = both-inside (lent previous && lent current) (lent next) (passed .1 .1 .0) in
-      let two-lents = both-inside (lent previous) (lent current) (lents .0) in
+      let goods = halves (goodShapes (previous .shapes) && goodShapes (current .shapes)) (goodShapes (next .shapes)) (passed .0) in
+      let two-goods = halves (goodShapes (previous .shapes)) (goodShapes (current .shapes)) (goods .0) in
+      let fits = halves _ (chromaFits (next .shapes)) (passed .1 .0) in
+      let two-fits = halves _ (chromaFits (current .shapes)) (fits .0) in
+      let one-fits = halves _ (chromaFits (previous .shapes)) (two-fits .0) in
+      let same = halves (agree (previous .shapes .luma) (current .shapes .luma)) (agree (next .shapes .luma) (current .shapes .luma)) (one-fits .0) in
+      let lents = halves (lent previous && lent current) (lent next) (passed .1 .1 .0) in
+      let two-lents = halves (lent previous) (lent current) (lents .0) in
       let self = agrees (current .shapes .luma) (current .shapes .luma) (record { width = refl; height = refl; depth = refl }) in
       let p = serves previous current (two-goods .0) (same .0) (one-fits .1) (two-fits .1) (two-lents .0) in
       let c = serves current current (two-goods .1) self (two-fits .1) (two-fits .1) (two-lents .1) in

@@ -7,7 +7,7 @@ use lib.IntN.{pos}
 use lib.ListN.{length, getD, take, drop}
 use lib.Ieee.{Float, nan}
 use denote.Ref.{RefT, now}
-use denote.Triple.Both.{Both}
+use Rattle.laws.specs.Contracts.{Slice}
 use Rattle.laws.specs.Rows.{laid}
 use Rattle.plane.specs.declared.Shape.{Shape}
 use Rattle.plane.specs.declared.Planes.{Planes}
@@ -54,7 +54,7 @@ pub record Serving : Type 0 where
 abbrev pub servingIn : RefT (List ℕ) → RefT (List ℕ) → RefT (List ℕ) → Serving
 servingIn before cur after = record { before = now before; cur = now cur; after = now after }
 
-abbrev pub serving : {A B C : Type 0} → Both (RefT (List ℕ)) A → Both (RefT (List ℕ)) B → Both (RefT (List ℕ)) C → Serving
+abbrev pub serving : {A B C : Type 0} → Slice A → Slice B → Slice C → Serving
 serving before cur after = servingIn (before .entry) (cur .entry) (after .entry)
 
 -- ---- what was judged before a row is made

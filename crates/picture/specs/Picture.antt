@@ -5,8 +5,8 @@ use mathlib.Core.List.{List, [], _∷_}
 use lib.Dec.{leb}
 use lib.IntN.{pos}
 use lib.ListN.{length}
-use denote.Ref.{RefT, now}
-use denote.Triple.Both.{Both}
+use denote.Ref.{now}
+use Rattle.laws.specs.Contracts.{Slice}
 use Rattle.laws.specs.Refusal.{lowest, written}
 use Rattle.laws.specs.Rows.{laid, over}
 use Rattle.field.specs.declared.Output.{Output}
@@ -135,9 +135,7 @@ framesOf asked previous-luma previous-cb previous-cr current-luma current-cb cur
 }
 
 -- and of those that a call finds
-abbrev pub framesLent :
-    {A B C D E F G H I : Type 0} → Asked → Both (RefT (List ℕ)) A → Both (RefT (List ℕ)) B → Both (RefT (List ℕ)) C → Both (RefT (List ℕ)) D
-    → Both (RefT (List ℕ)) E → Both (RefT (List ℕ)) F → Both (RefT (List ℕ)) G → Both (RefT (List ℕ)) H → Both (RefT (List ℕ)) I → Frames
+abbrev pub framesLent : {A B C D E F G H I : Type 0} → Asked → Slice A → Slice B → Slice C → Slice D → Slice E → Slice F → Slice G → Slice H → Slice I → Frames
 framesLent asked previous-luma previous-cb previous-cr current-luma current-cb current-cr next-luma next-cb next-cr =
     framesOf asked (now (previous-luma .entry)) (now (previous-cb .entry)) (now (previous-cr .entry)) (now (current-luma .entry)) (now (current-cb .entry))
     (now (current-cr .entry)) (now (next-luma .entry)) (now (next-cb .entry)) (now (next-cr .entry))

@@ -4,11 +4,11 @@ use mathlib.Core.Path.{_≡_, ap}
 use mathlib.Core.Bool.{Bool, true, _&&_}
 use mathlib.Core.List.{_∷_}
 use lib.Dec.{lit<}
+use Rattle.laws.proofs.Bools.{halves}
 use Rattle.laws.specs.Refusal.{lowest}
 use Rattle.laws.proofs.Refusal.{first-passes, rest-passes, lowest-behind, lowest-alike}
 use Rattle.plane.specs.declared.Planes.{Planes}
 use Rattle.plane.specs.Plane.{goodShape}
-use Rattle.plane.proofs.Coordinates.{both-inside}
 use Rattle.colour.specs.declared.Conversion.{Conversion}
 use Rattle.picture.specs.Picture.{Frame, frameOf, goodShapes, pictureTests}
 use Rattle.numbers.proofs.Cut.{cut-good, cut-same}
@@ -20,8 +20,8 @@ planes-good p i = cut-good (p .luma) i && cut-good (p .cb) i && cut-good (p .cr)
 
 planes-same : (p : Planes) → goodShapes p ≡ true → cutPlanes p ≡ p
 planes-same p g =
-    let cr = both-inside (goodShape (p .luma) && goodShape (p .cb)) (goodShape (p .cr)) g in
-    let cb = both-inside (goodShape (p .luma)) (goodShape (p .cb)) (cr .0) in
+    let cr = halves (goodShape (p .luma) && goodShape (p .cb)) (goodShape (p .cr)) g in
+    let cb = halves (goodShape (p .luma)) (goodShape (p .cb)) (cr .0) in
     λ i. record { luma = cut-same (p .luma) (cb .0) i; cb = cut-same (p .cb) (cb .1) i; cr = cut-same (p .cr) (cr .1) i }
 
 frame-same : (f : Frame) → goodShapes (f .shapes) ≡ true → cutFrame f ≡ f
@@ -40,8 +40,8 @@ module _ (named : Bool) (conversion : Conversion) (p c n : Frame) (room : ℕ) w
 
   all-same : allGood ≡ true → AllSame
   all-same g =
-      let last = both-inside (goodShapes (p .shapes) && goodShapes (c .shapes)) (goodShapes (n .shapes)) g in
-      let first = both-inside (goodShapes (p .shapes)) (goodShapes (c .shapes)) (last .0) in
+      let last = halves (goodShapes (p .shapes) && goodShapes (c .shapes)) (goodShapes (n .shapes)) g in
+      let first = halves (goodShapes (p .shapes)) (goodShapes (c .shapes)) (last .0) in
       (frame-same p (first .0), frame-same c (first .1), frame-same n (last .1))
 
   pub picture-number : number (cutFrame p) (cutFrame c) (cutFrame n) ≡ number p c n

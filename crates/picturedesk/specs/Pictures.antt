@@ -4,8 +4,8 @@ use mathlib.Core.Bool.{Bool, false, cond, _&&_}
 use mathlib.Core.List.{List, _∷_}
 use lib.Dec.{leb, eqb}
 use lib.ListN.{length}
-use denote.Ref.{RefT, now}
-use denote.Triple.Both.{Both}
+use denote.Ref.{now}
+use Rattle.laws.specs.Contracts.{Slice}
 use Rattle.laws.specs.Refusal.{lowest}
 use Rattle.field.specs.declared.Chosen.{Chosen}
 use Rattle.field.specs.declared.Chosen.the-variants as chosen
@@ -72,9 +72,8 @@ namedTests quality output conversion previous current next f room =
 
 -- the number, and what the output holds afterwards by the number, of what the call finds
 abbrev pub namedNo :
-    {A B C D E F G H I J : Type 0} → ℕ → OutputNumbers → Conversion → FrameNumbers → FrameNumbers → FrameNumbers → Both (RefT (List ℕ)) A
-    → Both (RefT (List ℕ)) B → Both (RefT (List ℕ)) C → Both (RefT (List ℕ)) D → Both (RefT (List ℕ)) E → Both (RefT (List ℕ)) F → Both (RefT (List ℕ)) G
-    → Both (RefT (List ℕ)) H → Both (RefT (List ℕ)) I → Both (RefT (List ℕ)) J → ℕ
+    {A B C D E F G H I J : Type 0} → ℕ → OutputNumbers → Conversion → FrameNumbers → FrameNumbers → FrameNumbers
+    → Slice A → Slice B → Slice C → Slice D → Slice E → Slice F → Slice G → Slice H → Slice I → Slice J → ℕ
 namedNo quality output conversion previous current next previous-luma previous-cb previous-cr current-luma current-cb current-cr next-luma next-cb next-cr out =
     lowest
     (namedTests quality output conversion previous current next
@@ -82,9 +81,8 @@ namedNo quality output conversion previous current next previous-luma previous-c
     next-luma next-cb next-cr) (length (now (out .entry))))
 
 abbrev pub namedOut :
-    {A B C D E F G H I J : Type 0} → ℕ → ℕ → OutputNumbers → Conversion → FrameNumbers → FrameNumbers → FrameNumbers → Both (RefT (List ℕ)) A
-    → Both (RefT (List ℕ)) B → Both (RefT (List ℕ)) C → Both (RefT (List ℕ)) D → Both (RefT (List ℕ)) E → Both (RefT (List ℕ)) F → Both (RefT (List ℕ)) G
-    → Both (RefT (List ℕ)) H → Both (RefT (List ℕ)) I → Both (RefT (List ℕ)) J → List ℕ
+    {A B C D E F G H I J : Type 0} → ℕ → ℕ → OutputNumbers → Conversion → FrameNumbers → FrameNumbers → FrameNumbers
+    → Slice A → Slice B → Slice C → Slice D → Slice E → Slice F → Slice G → Slice H → Slice I → Slice J → List ℕ
 namedOut number quality output conversion previous current next previous-luma previous-cb previous-cr current-luma current-cb current-cr next-luma next-cb next-cr out =
     let asked = askedNamed quality output conversion previous current next in
     askedOut number asked

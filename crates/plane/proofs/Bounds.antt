@@ -1,12 +1,12 @@
 -- What a shape within the bounds has, number by number.
-use Prim.Native.Nat.{ℕ, _≤_}
+use Prim.Native.Nat.{_≤_}
 use mathlib.Core.Path.{_≡_}
 use mathlib.Core.Bool.{Bool, true, _&&_}
 use borrow.Author.Tests.{leb-true}
 use lib.Dec.{leb}
+use Rattle.laws.proofs.Bools.{halves}
 use Rattle.plane.specs.declared.Shape.{Shape}
 use Rattle.plane.specs.Plane.{rowBytes, goodShape}
-use Rattle.plane.proofs.Coordinates.{both-inside}
 
 pub record Within (s : Shape) : Type 0 where
   pub width-least : 1 ≤ s .width
@@ -24,13 +24,13 @@ module _ (a b c d e f g h : Bool) where
       (a && b && c && d && e && f && g && h) ≡ true →
       (a ≡ true) × (b ≡ true) × (c ≡ true) × (d ≡ true) × (e ≡ true) × (f ≡ true) × (g ≡ true) × (h ≡ true)
   each-of-eight p =
-      let p7 = both-inside (a && b && c && d && e && f && g) h p in
-      let p6 = both-inside (a && b && c && d && e && f) g (p7 .0) in
-      let p5 = both-inside (a && b && c && d && e) f (p6 .0) in
-      let p4 = both-inside (a && b && c && d) e (p5 .0) in
-      let p3 = both-inside (a && b && c) d (p4 .0) in
-      let p2 = both-inside (a && b) c (p3 .0) in
-      let p1 = both-inside a b (p2 .0) in
+      let p7 = halves (a && b && c && d && e && f && g) h p in
+      let p6 = halves (a && b && c && d && e && f) g (p7 .0) in
+      let p5 = halves (a && b && c && d && e) f (p6 .0) in
+      let p4 = halves (a && b && c && d) e (p5 .0) in
+      let p3 = halves (a && b && c) d (p4 .0) in
+      let p2 = halves (a && b) c (p3 .0) in
+      let p1 = halves a b (p2 .0) in
       (p1 .0, p1 .1, p2 .1, p3 .1, p4 .1, p5 .1, p6 .1, p7 .1)
 
 pub good-within : (s : Shape) → goodShape s ≡ true → Within s

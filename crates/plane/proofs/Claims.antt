@@ -1,27 +1,24 @@
 -- The claims of specs/Claims.antt.
-use Prim.Native.Nat.{ℕ, zero, suc, _+_, _-_, _*_, _/_, _%_, _^_, _<_, _≤_, min, max}
-use mathlib.Core.Path.{_≡_, refl, sym, ap, _∙_}
+use Prim.Native.Nat.{ℕ, suc, _+_, _-_, _*_, _/_, _%_, _^_, _<_}
+use mathlib.Core.Path.{_≡_, sym, ap, _∙_}
 use mathlib.Core.Bool.{Bool, true, false, cond}
 use mathlib.Core.List.{List, [], _∷_, nil≢cons, cons≢nil}
 use native.Mathlib.Nat.{div-le-self, lt-of-le-of-lt, le-of-lt, mod-lt, div-add-mod'}
 use native.Mathlib.Omega.{arith}
 use borrow.Author.Tests.{lt-ltb}
 use lib.Dec.{leb, lit<}
-use lib.IntN.{ℤ, pos, negsuc, negℤ, _+ℤ_, _*ℤ_}
+use lib.IntN.{ℤ, pos, negsuc, negℤ, _+ℤ_}
 use lib.ListN.{getD}
 use lib.Ieee.{Float}
 use Rattle.laws.specs.Refusal.{rising}
 use Rattle.laws.proofs.Claims.{lowest-says}
 use Rattle.float.proofs.Small.{small-whole, away-whole, small-div}
 use Rattle.float.proofs.Range.{not-negative-whole, not-negative-div, unit-whole-quotient}
-use Rattle.plane.specs.declared.Shape.{Shape}
-use Rattle.plane.specs.declared.Sampled.{Sampled}
 use Rattle.plane.specs.declared.Sampled.the-variants as sampled
-use Rattle.plane.specs.declared.Coded.{Coded}
 use Rattle.plane.specs.declared.Coded.the-variants as coded
 use Rattle.plane.specs.Plane.{storedAt, startOf, shift, codeOf, fullCode, valueOf}
 use Rattle.plane.specs.Coordinates.{held, parityOf, biasOf}
-use Rattle.plane.specs.Claims.{AtSays, CodeSays, OneSampled, OneCoded, AllBytes, CodeFits, ValueFinite, ValueInUnit, BiasKeeps, BiasIsEven, Euclidean, ParityIsEuclidean}
+use Rattle.plane.specs.Claims.{AtSays, CodeSays, OneSampled, OneCoded, AllBytes, CodeFits, ValueFinite, ValueInUnit, BiasKeeps, BiasIsEven, ParityIsEuclidean}
 use Rattle.plane.proofs.Full.{full-least, full-most}
 use Rattle.plane.proofs.Coordinates.{unbiased-bias, parity-unbiased}
 

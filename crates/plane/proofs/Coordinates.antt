@@ -1,13 +1,14 @@
 -- What the bias means: a held coordinate is the signed one, clamped into the plane it is clamped alike, its parity is the Euclidean
 -- remainder of the signed one, and an offset added to it is added to the signed one.
 use mathlib.Core.Path.{_≡_, refl, sym, ap, _∙_}
-use mathlib.Core.Bool.{Bool, true, false, cond, _&&_, true≢false}
+use mathlib.Core.Bool.{Bool, true, false, true≢false}
 use Prim.Native.Nat.{ℕ, zero, suc, _+_, _-_, _/_, _%_, _<_, _≤_, min, zero-le}
 use native.Mathlib.Omega.{arith}
-use borrow.Author.Tests.{ltb-true, ltb-false, leb-true, leb-false, lt-ltb, le-ltb}
+use borrow.Author.Tests.{ltb-true, ltb-false, leb-true, lt-ltb, le-ltb}
 use lib.Dec.{T, ltb, leb}
 use lib.IntN.{ℤ, pos, negsuc, natAbs, negℤ, _+ℤ_}
 use lib.Signed.{mag, nonNeg, quotZ, remZ}
+use Rattle.laws.proofs.Bools.{and-left, and-right}
 use Rattle.plane.specs.Coordinates.{inReach, inside, held, parityOf, biasOf, unbiased}
 
 -- ---- a held coordinate by whether it is negative
@@ -25,14 +26,6 @@ pub held-from : (size c : ℕ) → 65544 ≤ c → held size (unbiased c) ≡ mi
 held-from size c h = rw (unbiased-from c h)
 
 -- ---- a coordinate within reach
-both-left : (a b : Bool) → (a && b) ≡ true → a ≡ true
-both-left true b h = refl
-both-left false b h = h
-
-both-right : (a b : Bool) → (a && b) ≡ true → b ≡ true
-both-right true b h = h
-both-right false b h = absurd (true≢false (sym h))
-
 pub record Reached (x : ℤ) (c : ℕ) : Type 0 where
   pub sum : x +ℤ pos 65544 ≡ pos c
   pub low : 8 ≤ c
@@ -43,7 +36,7 @@ reached (pos n) h =
     let m : n ≤ 65536 = leb-true n 65536 h in
     rw h record { sum = refl; low = omega arith; high = omega arith }
 reached (negsuc n) h =
-    let m : n ≤ 65535 = leb-true n 65535 (both-left (leb n 65535) true h) in
+    let m : n ≤ 65535 = leb-true n 65535 (and-left (leb n 65535) true h) in
     let e : negsuc n +ℤ pos 65544 ≡ pos (65544 - suc n) = simp (le-ltb 65544 (suc n) (omega arith)) in
     rw (h, e) record { sum = e; low = omega arith; high = omega arith }
 
@@ -54,7 +47,7 @@ unbiased-bias (pos n) h = rw (h, unbiased-from (n + 65544) (omega arith)) (ap po
     back : (n : ℕ) → n + 65544 - 65544 ≡ n
     back n = omega arith
 unbiased-bias (negsuc n) h =
-    let m : n ≤ 65535 = leb-true n 65535 (both-left (leb n 65535) true h) in
+    let m : n ≤ 65535 = leb-true n 65535 (and-left (leb n 65535) true h) in
     let e : negsuc n +ℤ pos 65544 ≡ pos (65544 - suc n) = simp (le-ltb 65544 (suc n) (omega arith)) in
     rw (h, e, unbiased-below (65544 - suc n) (omega arith)) (ap negsuc (back n m))
   where
@@ -81,11 +74,8 @@ inside-nonneg size (pos n) h = tt
 inside-nonneg size (negsuc n) h = absurd (true≢false (sym h))
 
 pub inside-below : (size : ℕ) (x : ℤ) → inside size x ≡ true → natAbs x < size
-inside-below size (pos n) h = ltb-true n size (both-right (leb 0 n) (ltb n size) h)
+inside-below size (pos n) h = ltb-true n size (and-right (leb 0 n) (ltb n size) h)
 inside-below size (negsuc n) h = absurd (true≢false (sym h))
-
-pub both-inside : (a b : Bool) → (a && b) ≡ true → (a ≡ true) × (b ≡ true)
-both-inside a b h = (both-left a b h, both-right a b h)
 
 -- ---- the parity by a remainder that has the dividend's sign
 negated : (k : ℕ) → natAbs (negℤ (pos k)) ≡ k

@@ -8,15 +8,15 @@
 // take every input too.
 ghost use mathlib.Core.Path.{_≡_};
 ghost use Prim.Native.Nat.{_+_, _*_, _-_, _<_, _≤_, _^_, min, max};
-ghost use lib.IntN.{pos, natAbs};
-ghost use lib.ListN.{length, getD};
+ghost use lib.IntN.{pos};
+ghost use lib.ListN.{getD};
 ghost use lib.Ieee as Ieee;
 ghost use lib.Ieee.{binary32};
-ghost use Rattle.laws.specs.Refusal.{lowest, whenDone};
+ghost use Rattle.laws.specs.Refusal.{lowest};
 ghost use Rattle.float.specs.Bounds.{Small};
-ghost use Rattle.plane.specs.Plane.{components, component, alone, sampleBytes, rowBytes, goodShape, planeBytes, gridShape, startOf, storedAt, biplanar, shift, codeOf, fullCode, valueOf, agree, half, chromaAgrees, planarOf, biplanarOf};
+ghost use Rattle.plane.specs.Plane.{components, component, alone, sampleBytes, goodShape, planeBytes, gridShape, startOf, storedAt, biplanar, shift, codeOf, fullCode, valueOf, agree, half, chromaAgrees, planarOf, biplanarOf};
 ghost use Rattle.plane.specs.Coordinates.{inReach, inside, held, parityOf, biasOf, unbiased};
-ghost use Rattle.plane.specs.Answer.{sampledNo, sampledValues, codedNo, codedValues, readTests, codeNo, atNo};
+ghost use Rattle.plane.specs.Answer.{readTests, GivesCode, GivesValue};
 
 // Which samples of its bytes a plane gives. Component, shift and samples per row follow from it.
 pub enum Layout {
@@ -331,7 +331,7 @@ fn read_no(coordinates: bool, s: Shape, bytes: usize) -> u8
 
 // The code at a place inside the plane.
 pub fn code(plane: &[u8], s: Shape, x: i32, y: i32) -> Coded
-    ensures { λ r. ⌜ (codedNo r ≡ codeNo s (length (now (plane .entry))) x y) × (codedValues r ≡ whenDone (codeNo s (length (now (plane .entry))) x y) (codeOf (now (plane .entry)) s (natAbs x) (natAbs y))) ⌝ }
+    ensures { λ r. ⌜ GivesCode r (now (plane .entry)) s x y ⌝ }
 {
     let inner = is_inside(x, s.width) & is_inside(y, s.height);
     let no = read_no(inner, s, plane.len());
@@ -344,7 +344,7 @@ pub fn code(plane: &[u8], s: Shape, x: i32, y: i32) -> Coded
 
 // The value at coordinates that may lie outside the plane.
 pub fn at(plane: &[u8], s: Shape, x: i32, y: i32) -> Sampled
-    ensures { λ r. ⌜ (sampledNo r ≡ atNo s (length (now (plane .entry))) x y) × (sampledValues r ≡ whenDone (atNo s (length (now (plane .entry))) x y) (valueOf (now (plane .entry)) s x y)) ⌝ }
+    ensures { λ r. ⌜ GivesValue r (now (plane .entry)) s x y ⌝ }
 {
     let no = read_no(in_reach(x) & in_reach(y), s, plane.len());
     if no == 0 {

@@ -2,8 +2,6 @@
 // the lowest of those that apply.
 ghost use mathlib.Core.Path.{_≡_};
 ghost use mathlib.Core.Bool.{cond};
-ghost use mathlib.Core.List.{[], _∷_};
-ghost use Rattle.laws.specs.Refusal.{lowest};
 
 // Done.
 pub const DONE: u8 = 0;
@@ -34,33 +32,4 @@ pub fn test(number: u8, passes: bool, behind: u8) -> u8
     ensures { λ r. ⌜ r ≡ cond passes behind number ⌝ }
 {
     if passes { behind } else { number }
-}
-
-pub fn lowest_of(
-    outside: bool,
-    shape: bool,
-    differ: bool,
-    short_input: bool,
-    short_output: bool,
-    colour: bool,
-) -> u8
-    ensures { λ r. ⌜ r ≡ lowest ((3, outside) ∷ (4, shape) ∷ (5, differ) ∷ (6, «short_input») ∷ (7, «short_output») ∷ (8, colour) ∷ []) ⌝ }
-{
-    test(
-        OUTSIDE,
-        outside,
-        test(
-            SHAPE,
-            shape,
-            test(
-                DIFFER,
-                differ,
-                test(
-                    SHORT_INPUT,
-                    short_input,
-                    test(SHORT_OUTPUT, short_output, test(COLOUR, colour, DONE)),
-                ),
-            ),
-        ),
-    )
 }

@@ -6,11 +6,7 @@
 // A lent plane kept together with its shape, for a viewer that asks for one sample after another. A
 // function that has such a struct is proved by hand, so each is thin: the work is that of `plane`.
 ghost use mathlib.Core.Path.{_≡_};
-ghost use lib.IntN.{natAbs};
-ghost use lib.ListN.{length};
-ghost use Rattle.laws.specs.Refusal.{whenDone};
-ghost use Rattle.plane.specs.Plane.{codeOf, valueOf};
-ghost use Rattle.plane.specs.Answer.{sampledNo, sampledValues, codedNo, codedValues, codeNo, atNo};
+ghost use Rattle.plane.specs.Answer.{GivesCode, GivesValue};
 use plane::Coded;
 use plane::Sampled;
 use plane::Shape;
@@ -41,14 +37,14 @@ impl<'a> Samples<'a> {
 
     // The code at a place inside the plane.
     pub fn code(self, x: i32, y: i32) -> Coded
-        ensures { λ r. ⌜ (codedNo r ≡ codeNo (self .entry .shape) (length (now (self .entry .plane))) x y) × (codedValues r ≡ whenDone (codeNo (self .entry .shape) (length (now (self .entry .plane))) x y) (codeOf (now (self .entry .plane)) (self .entry .shape) (natAbs x) (natAbs y))) ⌝ }
+        ensures { λ r. ⌜ GivesCode r (now (self .entry .plane)) (self .entry .shape) x y ⌝ }
     {
         plane::code(self.plane, self.shape, x, y)
     }
 
     // The value at coordinates that may lie outside the plane.
     pub fn at(self, x: i32, y: i32) -> Sampled
-        ensures { λ r. ⌜ (sampledNo r ≡ atNo (self .entry .shape) (length (now (self .entry .plane))) x y) × (sampledValues r ≡ whenDone (atNo (self .entry .shape) (length (now (self .entry .plane))) x y) (valueOf (now (self .entry .plane)) (self .entry .shape) x y)) ⌝ }
+        ensures { λ r. ⌜ GivesValue r (now (self .entry .plane)) (self .entry .shape) x y ⌝ }
     {
         plane::at(self.plane, self.shape, x, y)
     }
@@ -57,7 +53,7 @@ impl<'a> Samples<'a> {
 // `at` for one that has the plane and the shape apart. No struct is among the parameters, so a caller
 // needs no proof by hand.
 pub fn sample_at(plane: &[u8], shape: Shape, x: i32, y: i32) -> Sampled
-    ensures { λ r. ⌜ (sampledNo r ≡ atNo shape (length (now (plane .entry))) x y) × (sampledValues r ≡ whenDone (atNo shape (length (now (plane .entry))) x y) (valueOf (now (plane .entry)) shape x y)) ⌝ }
+    ensures { λ r. ⌜ GivesValue r (now (plane .entry)) shape x y ⌝ }
 {
     Samples::new(plane, shape).at(x, y)
 }

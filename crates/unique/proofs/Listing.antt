@@ -1,7 +1,5 @@
 -- Nothing else would satisfy a contract of `listing`.
-use Prim.Native.Nat.{ℕ}
-use mathlib.Core.Path.{_≡_, refl, ap, ap₂}
-use mathlib.Core.List.{List}
+use mathlib.Core.Path.{refl, ap, ap₂}
 use Rattle.listing.proofs.write.Kinds as write-kinds
 use Rattle.listing.proofs.write.Reads as write
 use Rattle.listing.proofs.Lister.start.Kinds as start-kinds
@@ -13,8 +11,7 @@ use Rattle.listing.proofs.Lister.step.Reads as step
 use Rattle.pages.specs.declared.Ask.{Ask}
 use Rattle.pages.specs.Run.{Program}
 use Rattle.listing.specs.declared.Lister.{Lister}
-use Rattle.listing.specs.declared.Step.{Step}
-use Rattle.listing.specs.Steps.{Fed, programOf}
+use Rattle.listing.specs.Steps.{Fed}
 use Rattle.unique.specs.Unique.{OneAnswer}
 use Rattle.unique.proofs.Law.{same, _and_, once}
 

@@ -9,13 +9,13 @@ use native.Mathlib.Omega.{arith}
 use lib.Dec.{leb, eqb}
 use lib.ListN.{length, take, drop}
 use borrow.Author.Tests.{leb-true, eqb-true, eq-eqb, ne-eqb}
+use Rattle.laws.proofs.Bools.{halves}
 use Rattle.laws.specs.Rows.{laid, over}
 use Rattle.laws.proofs.Rows.{row-within, strided-within}
 use Rattle.laws.proofs.Lists.{part-length, Stacked, stack-starts, stacks-part, stack-ends, clamped, clamped-wide, clamped-row, clamped-laid}
 use Rattle.plane.specs.declared.Shape.{Shape}
 use Rattle.plane.specs.Plane.{goodShape, gridShape, planeBytes, sampleBytes, agree}
 use Rattle.plane.proofs.Bounds.{good-within}
-use Rattle.plane.proofs.Coordinates.{both-inside}
 use Rattle.plane.specs.declared.Grid.{Grid}
 use Rattle.weave.specs.Weave.{lineBytes, goodLines, lineIn, wovenLine, placeIn, linePlace, wovenPlane, wovenBytes}
 use Rattle.weave.specs.Claims.{Matched}
@@ -28,8 +28,8 @@ pub record Alike (a b : Shape) : Type 0 where
 
 pub alike-in : (a b : Shape) → agree a b ≡ true → Alike a b
 alike-in a b h =
-    let to-depth = both-inside (eqb (a .width) (b .width) && eqb (a .height) (b .height)) (eqb (a .depth) (b .depth)) h in
-    let sizes = both-inside (eqb (a .width) (b .width)) (eqb (a .height) (b .height)) (to-depth .0) in
+    let to-depth = halves (eqb (a .width) (b .width) && eqb (a .height) (b .height)) (eqb (a .depth) (b .depth)) h in
+    let sizes = halves (eqb (a .width) (b .width)) (eqb (a .height) (b .height)) (to-depth .0) in
     record {
       widths = eqb-true (a .width) (b .width) (sizes .0);
       heights = eqb-true (a .height) (b .height) (sizes .1);
@@ -45,7 +45,7 @@ pub record Bounded (l : Grid) : Type 0 where
 
 pub bounded : (l : Grid) → goodLines l ≡ true → Bounded l
 bounded l h =
-    let both = both-inside (goodShape (gridShape l)) (leb (l .height) 2176) h in
+    let both = halves (goodShape (gridShape l)) (leb (l .height) 2176) h in
     let w = good-within (gridShape l) (both .0) in
     record {
       height-least = w .height-least;
@@ -92,7 +92,7 @@ wovenRows top t bottom b = clamped (wovenLine top t bottom b) (t .height * 2 - 1
 
 module _ (top : List ℕ) (t : Grid) (bottom : List ℕ) (b : Grid) (m : Matched top t bottom b) where
   some-row : 1 ≤ t .height
-  some-row = good-within (gridShape t) (both-inside (goodShape (gridShape t)) (leb (t .height) 2176) (m .top-good) .0) .height-least
+  some-row = good-within (gridShape t) (halves (goodShape (gridShape t)) (leb (t .height) 2176) (m .top-good) .0) .height-least
 
   pub same-size : lineBytes b ≡ lineBytes t
   same-size =

@@ -6,11 +6,11 @@ use mathlib.Core.List.{List}
 use lib.Dec.{eqb}
 use lib.ListN.{length}
 use borrow.Author.Tests.{leb-true, ltb-true, eqb-true, eq-eqb}
+use Rattle.laws.proofs.Bools.{halves}
 use Rattle.laws.specs.Refusal.{rising}
 use Rattle.laws.proofs.Refusal.{all-pass}
 use Rattle.plane.specs.declared.Shape.{Shape}
 use Rattle.plane.specs.Plane.{gridShape, agree, half, chromaAgrees}
-use Rattle.plane.proofs.Coordinates.{both-inside}
 use Rattle.plane.specs.declared.Grid.{Grid}
 use Rattle.weave.specs.Weave.{Given, goodLines, goodField, chromaFits, whole, wovenBytes, weaveTests, weaveNo, lineTests, lineNo}
 use Rattle.weave.specs.Claims.{Matched}
@@ -19,8 +19,8 @@ use Rattle.weave.proofs.Fields.{Alike, alike-in}
 -- each of three tests that hold together
 pub each-of-three : (a b c : Bool) → (a && b && c) ≡ true → (a ≡ true) × (b ≡ true) × (c ≡ true)
 each-of-three a b c h =
-    let last = both-inside (a && b) c h in
-    let first = both-inside a b (last .0) in
+    let last = halves (a && b) c h in
+    let first = halves a b (last .0) in
     (first .0, first .1, last .1)
 
 -- ---- chroma planes agree where their luma planes do
@@ -74,13 +74,13 @@ module _ (top bottom : Given) (luma-room cb-room cr-room : ℕ) (done : weaveNo 
       let t = top .shape in
       let b = bottom .shape in
       let tests = all-pass (weaveTests top bottom luma-room cb-room cr-room) tt done in
-      let shapes = both-inside (goodField t) (goodField b) (tests .0) in
+      let shapes = halves (goodField t) (goodField b) (tests .0) in
       let good = each-of-three (goodLines (t .luma)) (goodLines (t .cb)) (goodLines (t .cr)) (shapes .0) in
       let good′ = each-of-three (goodLines (b .luma)) (goodLines (b .cb)) (goodLines (b .cr)) (shapes .1) in
       let sizes = each-of-three (agree (gridShape (t .luma)) (gridShape (b .luma))) (chromaFits t) (chromaFits b) (tests .1 .0) in
-      let fits = both-inside (chromaAgrees (gridShape (t .luma)) (gridShape (t .cb))) (chromaAgrees (gridShape (t .luma)) (gridShape (t .cr))) (sizes .1) in
-      let fits′ = both-inside (chromaAgrees (gridShape (b .luma)) (gridShape (b .cb))) (chromaAgrees (gridShape (b .luma)) (gridShape (b .cr))) (sizes .2) in
-      let wholes = both-inside (whole top) (whole bottom) (tests .1 .1 .0) in
+      let fits = halves (chromaAgrees (gridShape (t .luma)) (gridShape (t .cb))) (chromaAgrees (gridShape (t .luma)) (gridShape (t .cr))) (sizes .1) in
+      let fits′ = halves (chromaAgrees (gridShape (b .luma)) (gridShape (b .cb))) (chromaAgrees (gridShape (b .luma)) (gridShape (b .cr))) (sizes .2) in
+      let wholes = halves (whole top) (whole bottom) (tests .1 .1 .0) in
       let long = each-of-three _ _ _ (wholes .0) in
       let long′ = each-of-three _ _ _ (wholes .1) in
       let rooms = each-of-three _ _ _ (tests .1 .1 .1 .0) in (
@@ -124,8 +124,8 @@ pub line-judged :
 unfolding rising
 line-judged top t bottom b y done =
     let tests = all-pass (lineTests t (length top) b (length bottom) y) tt done in
-    let shapes = both-inside (goodLines t) (goodLines b) (tests .1 .0) in
-    let wholes = both-inside _ _ (tests .1 .1 .1 .0) in (
+    let shapes = halves (goodLines t) (goodLines b) (tests .1 .0) in
+    let wholes = halves _ _ (tests .1 .1 .1 .0) in (
       record {
         top-good = shapes .0;
         bottom-good = shapes .1;

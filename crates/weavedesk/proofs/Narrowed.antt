@@ -7,12 +7,12 @@ use mathlib.Core.List.{List, [], _∷_}
 use native.Mathlib.Omega.{arith}
 use lib.Dec.{leb}
 use borrow.Author.Tests.{leb-true, lt-ltb}
+use Rattle.laws.proofs.Bools.{halves}
 use Rattle.laws.specs.Refusal.{lowest, rising}
 use Rattle.laws.proofs.Refusal.{all-pass, lowest-alike}
 use Rattle.plane.specs.declared.Shape.{Shape}
 use Rattle.plane.specs.declared.Grid.{Grid}
 use Rattle.plane.specs.Plane.{gridShape, goodShape, planeBytes, agree}
-use Rattle.plane.proofs.Coordinates.{both-inside}
 use Rattle.numbers.specs.declared.GridNumbers.{GridNumbers}
 use Rattle.numbers.specs.Numbers.{gridNamed}
 use Rattle.numbers.specs.Inner.{cutGrid}
@@ -46,8 +46,8 @@ both-narrowed :
     {A B : Type 0} {p : A → Bool} {q : B → Bool} {a a′ : A} {b b′ : B} → Narrowed p a a′ → Narrowed q b b′
     → Narrowed (λ (x : A × B). p (x .0) && q (x .1)) (a, b) (a′, b′)
 both-narrowed {A} {B} {p} {q} {a} {a′} {b} {b′} m n = record {
-  from-cut = λ e. let both = both-inside (p a) (q b) e in (λ i. (m .from-cut (both .0) i, n .from-cut (both .1) i));
-  from-given = λ e. let both = both-inside (p a′) (q b′) e in (λ i. (m .from-given (both .0) i, n .from-given (both .1) i));
+  from-cut = λ e. let both = halves (p a) (q b) e in (λ i. (m .from-cut (both .0) i, n .from-cut (both .1) i));
+  from-given = λ e. let both = halves (p a′) (q b′) e in (λ i. (m .from-given (both .0) i, n .from-given (both .1) i));
 }
 
 -- ---- the planes of a field
@@ -59,9 +59,9 @@ gridOf s = record { width = s .width; height = s .height; depth = s .depth; stri
 lines-narrowed : (g : Grid) → Narrowed goodLines (cutGrid g) g
 lines-narrowed g = record {
   from-cut = λ e.
-      let good = both-inside (goodShape (gridShape (cutGrid g))) (leb (cutGrid g .height) 2176) e .0 in
+      let good = halves (goodShape (gridShape (cutGrid g))) (leb (cutGrid g .height) 2176) e .0 in
       ap gridOf (cut-same (gridShape g) (sym (cut-good (gridShape g)) ∙ good));
-  from-given = λ e. ap gridOf (cut-same (gridShape g) (both-inside (goodShape (gridShape g)) (leb (g .height) 2176) e .0));
+  from-given = λ e. ap gridOf (cut-same (gridShape g) (halves (goodShape (gridShape g)) (leb (g .height) 2176) e .0));
 }
 
 pub field-narrowed : (n : FieldNumbers) → Narrowed goodField (fieldCut n) (fieldNamed n)
@@ -97,7 +97,7 @@ module _ (t b : FieldNumbers) (luma cb cr luma′ cb′ cr′ : List ℕ) (luma-
   unfolding rising
   weave-same done =
       let tests = all-pass (weaveTests (givenOf (fieldNamed t) luma cb cr) (givenOf (fieldNamed b) luma′ cb′ cr′) luma-room cb-room cr-room) tt done in
-      let good = both-inside (goodField (fieldNamed t)) (goodField (fieldNamed b)) (tests .0) in
+      let good = halves (goodField (fieldNamed t)) (goodField (fieldNamed b)) (tests .0) in
       (field-narrowed t .from-given (good .0), field-narrowed b .from-given (good .1))
 
 -- ---- a single line
@@ -122,7 +122,7 @@ module _ (t : GridNumbers) (top-bytes : ℕ) (b : GridNumbers) (bottom-bytes y :
   unfolding rising
   line-same done =
       let tests = all-pass (lineTests (gridNamed t) top-bytes (gridNamed b) bottom-bytes y) tt done in
-      let good = both-inside (goodLines (gridNamed t)) (goodLines (gridNamed b)) (tests .1 .0) in
+      let good = halves (goodLines (gridNamed t)) (goodLines (gridNamed b)) (tests .1 .0) in
       (lines-narrowed (gridNamed t) .from-given (good .0), lines-narrowed (gridNamed b) .from-given (good .1))
 
 -- ---- a frame read back
@@ -161,10 +161,10 @@ module _ (n : ReadbackNumbers) where
   counts k = leb 1 k && leb k 3
 
   uncut : counts (n .planes) ≡ true → min (n .planes) 255 ≡ n .planes
-  uncut e = omega (arith, leb-true (n .planes) 3 (both-inside (leb 1 (n .planes)) (leb (n .planes) 3) e .1))
+  uncut e = omega (arith, leb-true (n .planes) 3 (halves (leb 1 (n .planes)) (leb (n .planes) 3) e .1))
 
   uncut-too : counts (min (n .planes) 255) ≡ true → min (n .planes) 255 ≡ n .planes
-  uncut-too e = omega (arith, leb-true (min (n .planes) 255) 3 (both-inside (leb 1 (min (n .planes) 255)) (leb (min (n .planes) 255) 3) e .1))
+  uncut-too e = omega (arith, leb-true (min (n .planes) 255) 3 (halves (leb 1 (min (n .planes) 255)) (leb (min (n .planes) 255) 3) e .1))
 
   counts-same : counts (min (n .planes) 255) ≡ counts (n .planes)
   counts-same =

@@ -8,6 +8,7 @@ use native.Mathlib.Omega.{arith}
 use lib.Dec.{T, leb, eqb, ltb, ltb→lt, lit<}
 use lib.ListN.{getD}
 use lib.IntN.{ℤ, pos, negsuc}
+use Rattle.laws.proofs.Bools.{halves}
 use Rattle.laws.specs.Refusal.{rising}
 use Rattle.laws.proofs.Refusal.{all-pass}
 use Rattle.field.specs.declared.Parity.{Parity}
@@ -15,7 +16,6 @@ use Rattle.field.specs.declared.Parity.the-variants as parity
 use Rattle.field.specs.Field.{firstRowOf, parityNamed}
 use Rattle.plane.specs.Plane.{gridShape, goodShape}
 use Rattle.plane.proofs.Bounds.{good-within}
-use Rattle.plane.proofs.Coordinates.{both-inside}
 use Rattle.packed.specs.Packed.{numberAt}
 use Rattle.packed.proofs.Claims.{reads-back}
 use Rattle.weave.specs.Weave.{goodLines}
@@ -117,7 +117,7 @@ push-sized l o done h =
     let f = fieldNamed (o .shape) in
     let shapes = all-pass (pushTests l o) tt done .1 .0 in
     let luma = each-of-three (goodLines (f .luma)) (goodLines (f .cb)) (goodLines (f .cr)) shapes .0 in
-    let w = good-within (gridShape (f .luma)) (both-inside (goodShape (gridShape (f .luma))) (leb (f .luma .height) 2176) luma .0) in
+    let w = good-within (gridShape (f .luma)) (halves (goodShape (gridShape (f .luma))) (leb (f .luma .height) 2176) luma .0) in
     either-sized (fits (weaverOf l) f (parityIn o)) emptyWeaver (waitingFor f (parityIn o) (timeIn o)) empty-sized
     record {
       width = below 65536 (w .width-most) tt;

@@ -4,11 +4,11 @@ use mathlib.Core.Path.{_≡_, refl, sym, ap, _∙_}
 use mathlib.Core.Bool.{Bool, true, false, cond}
 use mathlib.Core.List.{List, [], _∷_, _++_, nil≢cons}
 use lib.ListN.{length}
+use Rattle.laws.proofs.Bools.{halves}
 use Rattle.laws.specs.Refusal.{rising, written}
 use Rattle.laws.specs.Rows.{over}
 use Rattle.laws.proofs.Claims.{lowest-says}
 use Rattle.plane.specs.Plane.{gridShape, half}
-use Rattle.plane.proofs.Coordinates.{both-inside}
 use Rattle.field.specs.declared.Parity.{Parity}
 use Rattle.weave.specs.declared.Field.{Field}
 use Rattle.weave.specs.Weave.{fieldsAgree}
@@ -90,7 +90,7 @@ module _ (room : ℕ) (state : State) (first f : Sent) (h : Reached room state (
 
   same-height : f .field .shape .luma .height ≡ first .field .shape .luma .height
   same-height =
-      let both = both-inside (opposite (first .parity) (f .parity)) (fieldsAgree (first .field .shape) (f .field .shape)) m in
+      let both = halves (opposite (first .parity) (f .parity)) (fieldsAgree (first .field .shape) (f .field .shape)) m in
       sym (alike-in (gridShape (first .field .shape .luma)) (gridShape (f .field .shape .luma)) (both .1) .heights)
 
   cb-height : f .field .shape .cb .height ≡ first .field .shape .cb .height

@@ -7,11 +7,11 @@ use native.Mathlib.Omega.{arith}
 use lib.Dec.{leb, eqb}
 use lib.ListN.{length, take, drop}
 use borrow.Author.Tests.{leb-true, le-leb, eqb-true, eq-eqb}
+use Rattle.laws.proofs.Bools.{halves}
 use Rattle.laws.proofs.Lists.{part-length}
 use Rattle.laws.specs.Refusal.{lowest, rising}
 use Rattle.laws.proofs.Refusal.{all-pass}
 use Rattle.plane.specs.Plane.{gridShape, planeBytes, half, chromaAgrees}
-use Rattle.plane.proofs.Coordinates.{both-inside}
 use Rattle.field.specs.declared.Parity.{Parity}
 use Rattle.plane.specs.declared.Grid.{Grid}
 use Rattle.weave.specs.declared.Field.{Field}
@@ -27,7 +27,7 @@ pub sound : (g : Given) → goodField (g .shape) ≡ true → chromaFits (g .sha
 sound g good halved long =
     let s = g .shape in
     let goods = each-of-three (goodLines (s .luma)) (goodLines (s .cb)) (goodLines (s .cr)) good in
-    let halves = both-inside (chromaAgrees (gridShape (s .luma)) (gridShape (s .cb))) (chromaAgrees (gridShape (s .luma)) (gridShape (s .cr))) halved in
+    let halves = halves (chromaAgrees (gridShape (s .luma)) (gridShape (s .cb))) (chromaAgrees (gridShape (s .luma)) (gridShape (s .cr))) halved in
     let longs =
     each-of-three (leb (planeBytes (gridShape (s .luma))) (length (g .luma))) (leb (planeBytes (gridShape (s .cb))) (length (g .cb)))
     (leb (planeBytes (gridShape (s .cr))) (length (g .cr))) long in
@@ -61,7 +61,7 @@ module _ (w : Weaver) (g : Given) (picture : Bool) (store luma-room cb-room cr-r
   unfolding rising
   passed done =
       let each = all-pass tests tt done in
-      let bytes = both-inside (whole g) (leb (keptBytes w) store) (each .1 .1 .0) in
+      let bytes = halves (whole g) (leb (keptBytes w) store) (each .1 .1 .0) in
       record { good = each .0; halved = each .1 .0; long = bytes .0; held = leb-true (keptBytes w) store (bytes .1); roomy = each .1 .1 .1 .0 }
 
 -- ---- a field that waits is packed
@@ -158,10 +158,10 @@ fitting w shape parity h =
     let a = eqb (w .width) (shape .luma .width) in
     let b = eqb (w .height) (shape .luma .height) in
     let d = eqb (w .depth) (shape .luma .depth) in
-    let outer = both-inside (w .held) (o && a && b && d) h in
-    let last = both-inside (o && a && b) d (outer .1) in
-    let next = both-inside (o && a) b (last .0) in
-    let first = both-inside o a (next .0) in
+    let outer = halves (w .held) (o && a && b && d) h in
+    let last = halves (o && a && b) d (outer .1) in
+    let next = halves (o && a) b (last .0) in
+    let first = halves o a (next .0) in
     record {
       holds = outer .0;
       widths = eqb-true (w .width) (shape .luma .width) (first .1);

@@ -9,12 +9,12 @@ use native.Mathlib.Omega.{arith}
 use lib.Dec.{leb}
 use lib.ListN.{length, take, drop, length-append}
 use borrow.Author.Tests.{le-leb}
+use Rattle.laws.proofs.Bools.{halves}
 use Rattle.laws.specs.Rows.{laid, over}
 use Rattle.laws.proofs.Lists.{length-laid, laid-row, over-then, Stacked, stack-starts, stacks, part-length, clamped, clamped-wide, clamped-row, clamped-laid}
 use Rattle.laws.proofs.Rows.{row-within, stack-fills}
 use Rattle.plane.specs.Plane.{gridShape, sampleBytes, goodShape, planeBytes}
 use Rattle.plane.proofs.Bounds.{good-within}
-use Rattle.plane.proofs.Coordinates.{both-inside}
 use Rattle.plane.specs.declared.Grid.{Grid}
 use Rattle.weave.specs.Weave.{Given, lineBytes, goodLines, lineIn}
 use Rattle.weave.proofs.Fields.{bounded, line-within}
@@ -95,7 +95,7 @@ module _ (plane : List ℕ) (l : Grid) (part : ℕ) (p : Packable part (length p
 pub packed-good : (l : Grid) → goodLines l ≡ true → goodLines (packedLines (l .width) (l .height) (l .depth)) ≡ true
 unfolding goodShape
 packed-good l h =
-    let both = both-inside (goodShape (gridShape l)) (leb (l .height) 2176) h in
+    let both = halves (goodShape (gridShape l)) (leb (l .height) 2176) h in
     let w = good-within (gridShape l) (both .0) in
     let size = l .width * sampleBytes (l .depth) in
     let fits : lineBytes l ≤ size = le-of-eq (row-size l) in

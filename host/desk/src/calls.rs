@@ -182,8 +182,8 @@ mod exported {
             previous_luma_len: usize, previous_cb: *const u8, previous_cb_len: usize, previous_cr: *const u8,
             previous_cr_len: usize, current: FrameNumbers, current_luma: *const u8, current_luma_len: usize,
             current_cb: *const u8, current_cb_len: usize, current_cr: *const u8, current_cr_len: usize,
-            following: FrameNumbers, following_luma: *const u8, following_luma_len: usize, following_cb: *const u8,
-            following_cb_len: usize, following_cr: *const u8, following_cr_len: usize, out: *mut u8, out_len: usize,
+            next: FrameNumbers, next_luma: *const u8, next_luma_len: usize, next_cb: *const u8, next_cb_len: usize,
+            next_cr: *const u8, next_cr_len: usize, out: *mut u8, out_len: usize,
         ) -> u8;
     }
 
@@ -436,17 +436,16 @@ pub fn detector_push(
 pub fn picture(
     quality: u8, output: OutputNumbers, conversion: Conversion, previous: FrameNumbers, previous_luma: &[u8],
     previous_cb: &[u8], previous_cr: &[u8], current: FrameNumbers, current_luma: &[u8], current_cb: &[u8],
-    current_cr: &[u8], following: FrameNumbers, following_luma: &[u8], following_cb: &[u8], following_cr: &[u8],
-    out: &mut [u8],
+    current_cr: &[u8], next: FrameNumbers, next_luma: &[u8], next_cb: &[u8], next_cr: &[u8], out: &mut [u8],
 ) -> u8 {
     // SAFETY: above.
     unsafe {
         exported::desk_picture(
             quality, output, conversion, previous, previous_luma.as_ptr(), previous_luma.len(), previous_cb.as_ptr(),
             previous_cb.len(), previous_cr.as_ptr(), previous_cr.len(), current, current_luma.as_ptr(),
-            current_luma.len(), current_cb.as_ptr(), current_cb.len(), current_cr.as_ptr(), current_cr.len(), following,
-            following_luma.as_ptr(), following_luma.len(), following_cb.as_ptr(), following_cb.len(),
-            following_cr.as_ptr(), following_cr.len(), out.as_mut_ptr(), out.len(),
+            current_luma.len(), current_cb.as_ptr(), current_cb.len(), current_cr.as_ptr(), current_cr.len(), next,
+            next_luma.as_ptr(), next_luma.len(), next_cb.as_ptr(), next_cb.len(), next_cr.as_ptr(), next_cr.len(),
+            out.as_mut_ptr(), out.len(),
         )
     }
 }

@@ -4,11 +4,11 @@ use lib.Dec.{lit<}
 use lib.ListN.{length}
 use denote.Ref.{now}
 use mir.Facts.{toZ-ofZ}
+use Rattle.laws.proofs.Bools.{halves}
 use Rattle.laws.specs.Refusal.{lowest}
 use Rattle.laws.proofs.Refusal.{gives, refuses, first-passes}
 use Rattle.plane.specs.Plane.{valueOf}
 use Rattle.plane.specs.Coordinates.{inReach}
-use Rattle.plane.proofs.Coordinates.{both-inside}
 use mir.Syntax.{w32}
 use Rattle.filter.specs.Filter.{edgeOf}
 use Rattle.filter.specs.Answer.{edgeNo}
@@ -26,7 +26,7 @@ number c =
 
 -- a call that gets 0 has both coordinates within reach, and holds them
 reach : (c : tie.Then1) → let a = c .before .before .before .before .before .before .before .before .before .args in (inReach (a .x) ≡ true) × (inReach (a .y) ≡ true)
-reach c = both-inside _ _ (first-passes 3 _ _ (lit< tt) (sym (number (c .before)) ∙ c .if1 .taken))
+reach c = halves _ _ (first-passes 3 _ _ (lit< tt) (sym (number (c .before)) ∙ c .if1 .taken))
 
 x-placed : (c : tie.After-biased2) → Placed (c .before .biased .result) (c .before .before .before .before .before .before .before .before .before .before .before .args .x)
 x-placed c = placed (reach (c .before .before) .0) (c .before .biased .ensures) (toZ-ofZ (c .before .before .before .before .before .before .before .before .before .before .before .fits .x))

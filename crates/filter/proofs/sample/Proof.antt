@@ -6,9 +6,9 @@ use lib.Ieee.{Float}
 use lib.ListN.{length}
 use denote.Ref.{now}
 use mir.Facts.{toZ-ofZ}
+use Rattle.laws.proofs.Bools.{halves}
 use Rattle.laws.proofs.Refusal.{refuses, first-passes}
 use Rattle.plane.specs.Coordinates.{inReach, parityOf, unbiased}
-use Rattle.plane.proofs.Coordinates.{both-inside}
 use Rattle.filter.specs.Rows.{goodRows}
 use Rattle.filter.specs.Making.{sampleIn}
 use Rattle.filter.specs.Answer.{sampleNo}
@@ -34,9 +34,9 @@ reach : (c : tie.Then1) → let a = c .before .before .before .before .before .a
 reach c =
     let a = c .before .before .before .before .before .args in
     let both =
-    both-inside (goodRows (a .making .rows) && inReach (a .x)) (inReach (a .y)) (first-passes 3 _ _ (lit< tt) (sym (number (c .before)) ∙ c .if1 .taken))
+    halves (goodRows (a .making .rows) && inReach (a .x)) (inReach (a .y)) (first-passes 3 _ _ (lit< tt) (sym (number (c .before)) ∙ c .if1 .taken))
     in
-    (both-inside (goodRows (a .making .rows)) (inReach (a .x)) (both .0) .1, both .1)
+    (halves (goodRows (a .making .rows)) (inReach (a .x)) (both .0) .1, both .1)
 
 x-placed : (c : tie.After-biased2) → Placed (c .before .biased .result) (c .before .before .before .before .before .before .before .before .args .x)
 x-placed c =

@@ -1,15 +1,16 @@
-use mathlib.Core.Path.{_≡_, refl, sym, ap, _∙_}
-use mathlib.Core.Bool.{Bool, true, _&&_}
+use mathlib.Core.Path.{_≡_, sym, ap, _∙_}
+use mathlib.Core.Bool.{true, _&&_}
 use lib.Dec.{lit<}
 use lib.ListN.{length}
 use denote.Ref.{now}
 use mir.Facts.{toZ-ofZ}
+use Rattle.laws.proofs.Bools.{halves}
 use Rattle.laws.specs.Refusal.{lowest}
 use Rattle.laws.proofs.Refusal.{gives, refuses, first-passes}
 use Rattle.plane.specs.Plane.{valueOf}
 use Rattle.plane.specs.Answer.{readTests, atNo}
 use Rattle.plane.specs.Coordinates.{inReach, biasOf, unbiased}
-use Rattle.plane.proofs.Coordinates.{both-inside, unbiased-bias}
+use Rattle.plane.proofs.Coordinates.{unbiased-bias}
 use borrow.Author.Needs.{needs}
 use Rattle.plane.proofs.at.Statement.{statement}
 use Rattle.plane.proofs.at.Tie as tie
@@ -31,7 +32,7 @@ number c =
 
 -- a call that gets 0 has both coordinates within reach, and holds them
 reach : (c : tie.Then1) → let a = c .before .before .before .before .before .args in (inReach (a .x) ≡ true) × (inReach (a .y) ≡ true)
-reach c = both-inside _ _ (first-passes 3 _ _ (lit< tt) (sym (number (c .before)) ∙ c .if1 .taken))
+reach c = halves _ _ (first-passes 3 _ _ (lit< tt) (sym (number (c .before)) ∙ c .if1 .taken))
 
 x-held : (c : tie.After-biased2) → unbiased (c .before .biased .result) ≡ c .before .before .before .before .before .before .before .args .x
 x-held c =

@@ -1,6 +1,5 @@
 -- `plane::biased` meets its contract: within reach the sum is a small natural number.
-use mathlib.Core.Path.{_≡_, refl, sym, ap, _∙_, subst}
-use mathlib.Core.Bool.{true}
+use mathlib.Core.Path.{_≡_, sym, ap, _∙_, subst}
 use native.Mathlib.Nat.{lt-of-le-of-lt}
 use lib.IntN.{ℤ, pos, natAbs, _+ℤ_}
 use lib.Dec.{T, lit<}

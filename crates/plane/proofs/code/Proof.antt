@@ -11,12 +11,13 @@ use denote.Ref.{now}
 use mir.Syntax.{w16}
 use mir.Val.{Fits}
 use mir.Facts.{toZ-ofZ}
+use Rattle.laws.proofs.Bools.{halves}
 use Rattle.laws.specs.Refusal.{lowest}
 use Rattle.laws.proofs.Refusal.{gives, refuses, first-passes}
 use Rattle.plane.specs.Plane.{codeOf}
 use Rattle.plane.specs.Answer.{readTests, codeNo}
 use Rattle.plane.specs.Coordinates.{inside}
-use Rattle.plane.proofs.Coordinates.{both-inside, inside-nonneg, inside-below}
+use Rattle.plane.proofs.Coordinates.{inside-nonneg, inside-below}
 use borrow.Author.Needs.{needs}
 use Rattle.plane.proofs.code.Statement.{statement}
 use Rattle.plane.proofs.code.Tie as tie
@@ -49,7 +50,7 @@ inner :
     (c : tie.Then1) →
     let a = entry (c .before) .args in
     (inside (a .s .width) (a .x) ≡ true) × (inside (a .s .height) (a .y) ≡ true)
-inner c = both-inside _ _ (first-passes 3 _ _ (lit< tt) (done c))
+inner c = halves _ _ (first-passes 3 _ _ (lit< tt) (done c))
 
 -- a coordinate inside a plane, as the machine holds it, fits the narrow type
 narrow : (size : ℕ) (x : ℤ) {z : ℤ} → size < 65536 → inside size x ≡ true → z ≡ x → T (nonNeg z) × Fits w16 (natAbs z)

@@ -1,11 +1,11 @@
 use native.Mathlib.Omega.{arith}
-use mathlib.Core.Path.{_≡_, refl, sym, ap, _∙_}
+use mathlib.Core.Path.{_≡_, sym, ap, _∙_}
 use mathlib.Core.Bool.{Bool, true, _&&_}
 use Prim.Native.Nat.{_≤_}
 use lib.Dec.{leb}
 use borrow.Author.Tests.{leb-true}
+use Rattle.laws.proofs.Bools.{halves}
 use Rattle.plane.specs.Plane.{biplanar}
-use Rattle.plane.proofs.Coordinates.{both-inside}
 use borrow.Author.Needs.{needs}
 use Rattle.plane.proofs.shift_of.Statement.{statement}
 use Rattle.plane.proofs.shift_of.Tie as tie
@@ -20,7 +20,7 @@ is-biplanar-requires c κs = search needs
 returns : tie.Need-returns
 returns c =
     let t = deep (c .before) in
-    let d : 9 ≤ c .before .before .before .args .depth = leb-true 9 (c .before .before .before .args .depth) (both-inside (biplanar (c .before .before .before .args .layout)) (leb 9 (c .before .before .before .args .depth)) t .1) in
+    let d : 9 ≤ c .before .before .before .args .depth = leb-true 9 (c .before .before .before .args .depth) (halves (biplanar (c .before .before .before .args .layout)) (leb 9 (c .before .before .before .args .depth)) t .1) in
     (simp t, omega arith)
 
 returns-2 : tie.Need-returns-2

@@ -1,4 +1,4 @@
-use mathlib.Core.Path.{_≡_, refl, sym, ap, _∙_}
+use mathlib.Core.Path.{sym, ap, _∙_}
 use Rattle.laws.proofs.Refusal.{done-equal, written-done, refusal-keeps}
 use Rattle.colour.specs.declared.Rgb.{Rgb}
 use Rattle.colour.specs.Answer.{colouredNo, colouredValues}

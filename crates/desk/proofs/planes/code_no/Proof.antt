@@ -1,22 +1,17 @@
 -- The coordinates are judged by the sizes as given, and what is judged by the cut shape is the same of
 -- the shape as given.
 use Prim.Native.Nat.{ℕ}
-use mathlib.Core.Path.{_≡_, refl, ap, _∙_}
+use mathlib.Core.Path.{_≡_, ap, _∙_}
 use mathlib.Core.Bool.{Bool, cond, _&&_}
 use mathlib.Core.List.{[], _∷_}
 use lib.Dec.{leb}
-use lib.IntN.{ℤ}
 use mir.Facts.{toZ-ofZ}
 use borrow.Author.Needs.{needs}
 use Rattle.laws.specs.Refusal.{lowest}
 use Rattle.laws.proofs.Refusal.{lowest-halves}
 use Rattle.plane.specs.Plane.{goodShape, planeBytes}
 use Rattle.plane.specs.Coordinates.{inside}
-use Rattle.plane.specs.Answer.{readTests}
-use Rattle.numbers.specs.declared.PlaneNumbers.{PlaneNumbers}
 use Rattle.numbers.specs.Numbers.{shapeNamed}
-use Rattle.desk.specs.Planes.{codeNo}
-use Rattle.numbers.specs.Inner.{cut}
 use Rattle.desk.proofs.Cut.{read-number}
 use Rattle.desk.proofs.planes.code_no.Statement.{statement}
 use Rattle.desk.proofs.planes.code_no.Tie as tie

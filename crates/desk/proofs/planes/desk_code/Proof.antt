@@ -1,9 +1,9 @@
 -- Where the number is 0 both coordinates are inside a plane within the bounds, so that they fit their
 -- places and the cut shape is the shape as given.
 use Prim.Native.Nat.{ℕ, _≤_, _<_}
-use mathlib.Core.Path.{_≡_, refl, sym, ap, subst, _∙_}
-use mathlib.Core.Bool.{Bool, true, _&&_}
-use native.Mathlib.Nat.{lt-of-lt-of-le, lt-trans, lt-of-le-of-lt}
+use mathlib.Core.Path.{_≡_, sym, subst, _∙_}
+use mathlib.Core.Bool.{true, _&&_}
+use native.Mathlib.Nat.{lt-of-lt-of-le, lt-trans}
 use lib.Dec.{T, leb, lit<}
 use lib.IntN.{ℤ, natAbs}
 use lib.Signed.{nonNeg}
@@ -13,11 +13,12 @@ use mir.Syntax.{w16}
 use mir.Val.{Fits}
 use mir.Facts.{toZ-ofZ}
 use borrow.Author.Needs.{needs}
+use Rattle.laws.proofs.Bools.{halves}
 use Rattle.laws.proofs.Refusal.{first-passes, rest-passes, stays, written-done}
 use Rattle.plane.specs.Plane.{goodShape, codeOf}
 use Rattle.plane.specs.Coordinates.{inside}
 use Rattle.plane.proofs.Bounds.{good-within}
-use Rattle.plane.proofs.Coordinates.{both-inside, inside-nonneg, inside-below}
+use Rattle.plane.proofs.Coordinates.{inside-nonneg, inside-below}
 use Rattle.numbers.specs.Numbers.{shapeNamed}
 use Rattle.desk.specs.Planes.{codeNo}
 use Rattle.numbers.proofs.Cut.{cut-same}
@@ -49,7 +50,7 @@ inner :
     (c : tie.Else1) →
     let a = entry (c .before) .args in
     (inside (a .shape .width) (a .x) ≡ true) × (inside (a .shape .height) (a .y) ≡ true)
-inner c = both-inside _ _ (first-passes 3 _ _ (lit< tt) (rest-passes 3 _ _ (lit< tt) (done c)))
+inner c = halves _ _ (first-passes 3 _ _ (lit< tt) (rest-passes 3 _ _ (lit< tt) (done c)))
 
 -- a coordinate inside a plane within the bounds, as the machine holds it, fits the narrow type
 narrow : (size most : ℕ) (x : ℤ) {z : ℤ} → size ≤ most → most < 65536 → inside size x ≡ true → z ≡ x → T (nonNeg z) × Fits w16 (natAbs z)
