@@ -13,20 +13,20 @@ use Rattle.picture.specs.Picture.{Frame, pictureTests, pictureNo, pictur
 
 -- 0 exactly when no number of the table applies, and otherwise the lowest that does
 abbrev pub PictureSays : Type 0
-PictureSays = (conversion : Conversion) (previous current next : Frame) (room : ℕ) → Says (pictureTests conversion previous current next room)
+PictureSays = (conversion : Conversion) (previous current following : Frame) (room : ℕ) → Says (pictureTests conversion previous current following room)
 
 -- A picture has four bytes for each pixel.
 abbrev pub PictureSize : Type 0
 PictureSize =
-    (quality : Quality) (output : Output) (conversion : Conversion) (previous current next : Frame)
-    → length (pictureOf quality output conversion previous current next) ≡ current .shapes .luma .height * (current .shapes .luma .width * 4)
+    (quality : Quality) (output : Output) (conversion : Conversion) (previous current following : Frame)
+    → length (pictureOf quality output conversion previous current following) ≡ current .shapes .luma .height * (current .shapes .luma .width * 4)
 
 -- Alpha is 255 everywhere.
 abbrev pub Opaque : Type 0
 Opaque =
-    (quality : Quality) (output : Output) (conversion : Conversion) (previous current next : Frame) (x y : ℕ)
+    (quality : Quality) (output : Output) (conversion : Conversion) (previous current following : Frame) (x y : ℕ)
     → x < current .shapes .luma .width → y < current .shapes .luma .height
-    → getD (pictureOf quality output conversion previous current next) (y * (current .shapes .luma .width * 4) + (x * 4 + 3)) 0 ≡ 255
+    → getD (pictureOf quality output conversion previous current following) (y * (current .shapes .luma .width * 4) + (x * 4 + 3)) 0 ≡ 255
 
 -- what is lent of a frame is bytes
 pub record Bytes (f : Frame) : Type 0 where
@@ -37,9 +37,9 @@ pub record Bytes (f : Frame) : Type 0 where
 -- No pixel of a picture that is not refused comes from a NaN or from a value outside 0..1.
 abbrev pub PixelsInUnit : Type 0
 PixelsInUnit =
-    (quality : Quality) (output : Output) (conversion : Conversion) (previous current next : Frame) (room x y : ℕ)
-    → Bytes previous → Bytes current → Bytes next
-    → pictureNo conversion previous current next room ≡ 0
+    (quality : Quality) (output : Output) (conversion : Conversion) (previous current following : Frame) (room x y : ℕ)
+    → Bytes previous → Bytes current → Bytes following
+    → pictureNo conversion previous current following room ≡ 0
     → InUnit
-    (colourAt conversion (qualityFor (output .field) quality) (rowsOf output) (served (output .before) previous current next) current
-    (served (output .after) previous current next) x y)
+    (colourAt conversion (qualityFor (output .field) quality) (rowsOf output) (served (output .before) previous current following) current
+    (served (output .after) previous current following) x y)

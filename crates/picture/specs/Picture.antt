@@ -56,20 +56,20 @@ lent f = wholeFrame (f .shapes) (length (f .luma)) (length (f .cb)) (length (f .
 -- is shorter than its shape needs. 7: the lent output is too short. 8: one of the nine numbers is outside its range or a NaN. All three frames are
 -- judged, also one that the output does not ask for.
 abbrev pub pictureTests : Conversion → Frame → Frame → Frame → ℕ → List (ℕ × Bool)
-pictureTests conversion previous current next room =
-    (4, goodShapes (previous .shapes) && goodShapes (current .shapes) && goodShapes (next .shapes))
+pictureTests conversion previous current following room =
+    (4, goodShapes (previous .shapes) && goodShapes (current .shapes) && goodShapes (following .shapes))
     ∷ (
       5,
-      agree (previous .shapes .luma) (current .shapes .luma) && agree (next .shapes .luma) (current .shapes .luma)
-          && chromaFits (previous .shapes) && chromaFits (current .shapes) && chromaFits (next .shapes),
+      agree (previous .shapes .luma) (current .shapes .luma) && agree (following .shapes .luma) (current .shapes .luma)
+          && chromaFits (previous .shapes) && chromaFits (current .shapes) && chromaFits (following .shapes),
     )
-    ∷ (6, lent previous && lent current && lent next)
+    ∷ (6, lent previous && lent current && lent following)
     ∷ (7, leb (current .shapes .luma .height * (current .shapes .luma .width * 4)) room)
     ∷ (8, goodConversion conversion)
     ∷ []
 
 abbrev pub pictureNo : Conversion → Frame → Frame → Frame → ℕ → ℕ
-pictureNo conversion previous current next room = lowest (pictureTests conversion previous current next room)
+pictureNo conversion previous current following room = lowest (pictureTests conversion previous current following room)
 
 -- ---- the picture
 
@@ -85,9 +85,9 @@ crIn f = valueOf (f .cr) (f .shapes .cr)
 
 -- `Output` says which of the three frames serves as before and which as after; cur is always the current frame.
 abbrev pub served : {A : Type 0} → Source → A → A → A → A
-served source.Previous previous current next = previous
-served source.Current previous current next = current
-served source.Next previous current next = next
+served source.Previous previous current following = previous
+served source.Current previous current following = current
+served source.Next previous current following = following
 
 -- No field means Weave.
 abbrev pub qualityFor : Chosen → Quality → Quality
@@ -115,9 +115,10 @@ pixelRows conversion quality rows before cur after =
     laid (cur .shapes .luma .height) (λ y. pixelRow conversion quality rows before cur after (cur .shapes .luma .width) y)
 
 abbrev pub pictureOf : Quality → Output → Conversion → Frame → Frame → Frame → List ℕ
-pictureOf quality output conversion previous current next =
-    pixelRows conversion (qualityFor (output .field) quality) (rowsOf output) (served (output .before) previous current next) current
-    (served (output .after) previous current next)
+pictureOf quality output conversion previous current following =
+    pixelRows conversion (qualityFor (output .field) quality) (rowsOf output) (served (output .before) previous current following) current
+    (served (output .after) previous current following)
+
 
 -- ---- a call
 

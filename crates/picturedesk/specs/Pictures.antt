@@ -52,8 +52,8 @@ abbrev pub outputGood : OutputNumbers → Bool
 outputGood n = leb (n .field) 2 && leb (n .weave) 2 && leb (n .earlier) 2 && leb (n .later) 2
 
 abbrev pub allNamed : ℕ → OutputNumbers → FrameNumbers → FrameNumbers → FrameNumbers → Bool
-allNamed quality output previous current next =
-    leb quality 3 && outputGood output && layoutsNamed previous && layoutsNamed current && layoutsNamed next
+allNamed quality output previous current following =
+    leb quality 3 && outputGood output && layoutsNamed previous && layoutsNamed current && layoutsNamed following
 
 abbrev pub askedNamed : ℕ → OutputNumbers → Conversion → FrameNumbers → FrameNumbers → FrameNumbers → Asked
 askedNamed quality output conversion previous current next = record {
