@@ -83,7 +83,7 @@ toEntry9 =
 unfoldable pub detectorAfter : List Call → Detector
 detectorAfter calls = after [] calls .detector
 
--- what is foretold of the frame that comes `ahead` others after entry 9
+-- what is foretold of the frame after entry 9 that has `ahead` others before it
 abbrev pub aheadOf : ℕ → ℕ
 aheadOf ahead = cadenceNumber (predictCadence (detectorAfter toEntry9 .lock) ahead)
 

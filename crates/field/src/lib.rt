@@ -34,7 +34,8 @@ impl Parity {
         }
     }
 
-    // The field that a number names. Callers refuse a number above 1.
+    // The field that a number names: 0 is top, every other number bottom. Callers refuse a number above 1
+    // that the host gives.
     pub fn named(first_row: u64) -> Parity
         ensures { λ r. ⌜ r ≡ parityNamed «first_row» ⌝ }
     {

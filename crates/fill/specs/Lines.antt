@@ -52,7 +52,7 @@ storedValue bytes depth shift full at = div binary32 (ofInt binary32 (pos (store
 unfoldable pub betterIn : Pick → Float → Float → Float → Pick
 betterIn best score near far = cond (lt score (best .score)) (record { score = score; near = near; far = far }) best
 
--- the slant held as t tried after `best`; the rows that stand at `far` are so many off
+-- the slant held as t tried after `best`; the rows that stand at `far` are `off` rows away
 abbrev pub Tries : List Float → ℕ → ℕ → ℕ → Pick → Pick → Type 0
 Tries rows far x t best r =
     (v : Sampler) (from count : ℕ) (y off : ℤ) (s : Slant) →

@@ -253,7 +253,8 @@ fn motion(
     trio(rows, LATER_UP, after, making.after, y, from, count);
 }
 
-// ---- a sample, from expanded rows. The column of a tile that is x stands n - 6 columns off at x + n.
+// ---- a sample, from expanded rows. Place `start + x + n` of a row holds the column that is n - 6 to the
+// right of the tile's column x.
 
 fn at(rows: &[f32], start: usize, x: usize, n: usize) -> f32
     requires { ⌜ (length (now rows) ≡ 5240) × (start ≤ 4716) × (x ≤ 511) × (n ≤ 12) ⌝ }

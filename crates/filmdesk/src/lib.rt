@@ -38,7 +38,7 @@ const RING: usize = 80;
 
 // ---- a detector in the state's bytes
 
-// Of a parity 0 is top, and every other number bottom, so that all bytes are some detector.
+// 0 is neither, 1 top and every other number bottom, so that all bytes are some detector.
 fn chosen_in(number: u64) -> Chosen
     ensures { λ r. ⌜ r ≡ chosenNamed number ⌝ }
 {

@@ -32,7 +32,7 @@ pub struct Rows {
     pub mate: u32,
 }
 
-// What a plane is made by. The three shapes are those of its planes.
+// What a plane is made by. The three shapes are those of the planes that it is made from.
 pub struct Making {
     pub quality: Quality,
     pub rows: Rows,
@@ -460,7 +460,7 @@ pub fn edge(cur: &[u8], shape: plane::Shape, x: i32, y: i32) -> Edged
     }
 }
 
-// The value at a place, of a picture that shows the rows `rows.first` of `cur`.
+// The value at a place, of a picture that shows the rows `making.rows.first` of `cur`.
 pub fn sample(
     making: Making,
     before: &[u8],

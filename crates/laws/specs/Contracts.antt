@@ -1,4 +1,4 @@
--- Words about contracts: what one comes to, as a plain type over the parameters of its signature (as `Post` of its module reads it), and what one finds.
+-- Words about contracts: what one comes to, as a plain type over the parameters of its signature (as `Post` of its module reads it), and what a call finds.
 use Prim.Native.Nat.{ℕ}
 use mathlib.Core.List.{List}
 use contract.Lifetimes.{Lfts}

@@ -6,7 +6,8 @@ ghost use Prim.Native.Nat.{min};
 ghost use Rattle.numbers.specs.Numbers.{layoutNamed, shapeNamed, gridNamed};
 ghost use Rattle.numbers.specs.Inner.{cut, cutGrid};
 
-// A plane's shape as the host gives it. A call refuses what is outside the bounds.
+// A plane's shape as the host gives it. The numbers are wider than a shape's own, so that none can wrap
+// into the bounds; a call refuses those outside.
 #[repr(C)]
 pub struct PlaneNumbers {
     // Samples of one component in a row.
@@ -22,7 +23,7 @@ pub struct PlaneNumbers {
 }
 
 // The shape of a plane whose codes are read as they stand: of a picture, or of a field, whose rows are
-// its lines. A call refuses what is outside the bounds.
+// its lines. The numbers are wider than a shape's own too.
 #[repr(C)]
 pub struct GridNumbers {
     // Samples in a row.

@@ -44,7 +44,7 @@ pub fn number_at(bytes: &[u8], place: u16) -> u64
     four_at(bytes, start) + 4294967296 * four_at(bytes, start + 4)
 }
 
-// A number in a place of two bytes, and in one of one. One too large for its place is cut to it.
+// The low two bytes of a number, and its low byte; what stands above them is dropped.
 pub fn size_in(number: u64) -> u16
     ensures { λ r. ⌜ r ≡ number % 65536 ⌝ }
 {

@@ -135,7 +135,7 @@ pub record Rooms (luma cb cr : List Float) : Type 0 where
 abbrev pub chromaOf : Place → Place
 chromaOf place = record { top = place .top / 2; height = half (place .height); left = place .left / 2; width = half (place .width) }
 
--- a tile of rows that stand `stride` bytes apart, and so many samples of it
+-- a tile of rows that stand `stride` bytes apart, within so many bytes
 pub record TileFits (place : Place) (stride out : ℕ) : Type 0 where
   pub rows-high : place .height ≤ 8
   pub columns-high : place .width ≤ 512
@@ -143,6 +143,7 @@ pub record TileFits (place : Place) (stride out : ℕ) : Type 0 where
   pub columns-within : place .left * 4 + place .width * 4 ≤ stride
   pub rows-within : place .height * stride ≤ out
 
+-- at least as many samples as a tile has
 pub record TileMade (place : Place) (luma cb cr : ℕ) : Type 0 where
   pub luma-made : place .height * place .width ≤ luma
   pub cb-made : half (place .height) * half (place .width) ≤ cb

@@ -119,7 +119,6 @@ pictureOf quality output conversion previous current following =
     pixelRows conversion (qualityFor (output .field) quality) (rowsOf output) (served (output .before) previous current following) current
     (served (output .after) previous current following)
 
-
 -- ---- a call
 
 pub record Frames : Type 0 where

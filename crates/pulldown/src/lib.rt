@@ -458,8 +458,8 @@ fn take_seen(ring: &mut [u8; 15], course: Course, seen: Seen) -> Course
     }
 }
 
-// Takes a frame, the ring in place: every push is this step. A refusal changes nothing. The cadence is
-// that of the phase which the frame leaves.
+// Takes a frame, the ring in place: every push of a lock is this step. A refusal changes nothing. The
+// cadence is that of the phase which the frame leaves.
 pub fn push_apart(ring: &mut [u8; 15], course: Course, seen: Seen) -> Stepped
     ensures { λ r. ⌜ lockWith (now (ring .exit)) (r .course) ≡ pushLock (lockWith (now (ring .entry)) course) seen ⌝ }
     ensures { λ r. ⌜ answerNo (r .answer) ≡ pushNo (lockWith (now (ring .entry)) course) ⌝ }

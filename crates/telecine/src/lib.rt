@@ -166,8 +166,8 @@ fn picture_no(detector: Detector, grid: Grid, bytes: usize, room: usize) -> u8
     refusal::test(refusal::SHAPE, good, input)
 }
 
-// Takes a frame of either kind, of which this was seen: every push is this step. The ring is changed in
-// place. A refusal changes nothing.
+// Takes a frame of either kind, by what was seen of it: every push of a detector is this step. The ring is
+// changed in place. A refusal changes nothing.
 pub fn step(ring: &mut [u8; 15], course: Course, last: Chosen, first: Parity, seen: Seen) -> Stepped
     ensures { λ r. ⌜ lockWith (now (ring .exit)) (r .course) ≡ pushLock (lockWith (now (ring .entry)) course) seen ⌝ }
     ensures { λ r. ⌜ r .last ≡ lastAfter (lockWith (now (ring .entry)) course) last first ⌝ }

@@ -358,7 +358,8 @@ fn line_number(
     )
 }
 
-// The number of a single woven line, from the lengths of the two planes. Numbers 3 to 6.
+// The number of a single woven line, from the lengths of the two planes, of fields with at most 2,176
+// lines. Numbers 3 to 6.
 #[no_mangle]
 pub extern "C" fn desk_line_number(
     top: GridNumbers,
@@ -372,7 +373,7 @@ pub extern "C" fn desk_line_number(
     line_number(top, top_bytes as usize, bottom, bottom_bytes as usize, y)
 }
 
-// The bytes of a single woven line, copied out. Numbers 3 to 7.
+// The bytes of a single woven line, copied out, of fields with at most 2,176 lines. Numbers 3 to 7.
 #[no_mangle]
 pub extern "C" fn desk_woven_line<'a>(
     top: &'a [u8],

@@ -26,7 +26,8 @@ pub struct Conversion {
     pub chroma_sin: f32,
 }
 
-/// A plane's shape as the host gives it. A call refuses what is outside the bounds.
+/// A plane's shape as the host gives it. The numbers are wider than a shape's own, so that none can wrap
+/// into the bounds; a call refuses those outside.
 #[repr(C)]
 #[derive(Debug, Clone, Copy, PartialEq, Eq)]
 pub struct PlaneNumbers {
@@ -43,7 +44,7 @@ pub struct PlaneNumbers {
 }
 
 /// The shape of a plane whose codes are read as they stand: of a picture, or of a field, whose rows are
-/// its lines. A call refuses what is outside the bounds.
+/// its lines. The numbers are wider than a shape's own too.
 #[repr(C)]
 #[derive(Debug, Clone, Copy, PartialEq, Eq)]
 pub struct GridNumbers {
@@ -468,7 +469,8 @@ pub fn weave(
     }
 }
 
-/// The number of a single woven line, from the lengths of the two planes. Gives 0; or 3, 4, 5 or 6.
+/// The number of a single woven line, from the lengths of the two planes, of fields with at most 2,176
+/// lines. Gives 0; or 3, 4, 5 or 6.
 #[inline]
 pub fn line_number(top: GridNumbers, top_bytes: u64, bottom: GridNumbers, bottom_bytes: u64, y: u32) -> u8 {
     // SAFETY: above.
@@ -477,8 +479,8 @@ pub fn line_number(top: GridNumbers, top_bytes: u64, bottom: GridNumbers, bottom
     }
 }
 
-/// The bytes of a single woven line, copied out. Gives 0; or 3, 4, 5, 6 or 7, and then all that is lent
-/// is as it was.
+/// The bytes of a single woven line, copied out, of fields with at most 2,176 lines. Gives 0; or 3, 4,
+/// 5, 6 or 7, and then all that is lent is as it was.
 #[inline]
 pub fn woven_line(
     top: &[u8], top_lines: GridNumbers, bottom: &[u8], bottom_lines: GridNumbers, y: u32, out: &mut [u8],
