@@ -3,7 +3,7 @@ use mathlib.Core.Path.{_≡_, refl, sym, _∙_, subst}
 use mathlib.Core.Logic.{inl, inr}
 use mathlib.Core.Bool.{Bool, true, false, _||_, cond, true≢false}
 use Prim.Native.Nat.{ℕ, _+_, _*_, _^_, _≤_, _<_, zero-le}
-use native.Mathlib.Nat.{le-trans, le-of-eq, lt-irrefl, not-le-of-lt, eq-zero-or-pos, zero-mul, mul-pos}
+use native.Mathlib.Nat.{le-trans, le-of-eq, lt-irrefl, not-le-of-lt, eq-zero-or-pos, zero-mul, mul-comm, mul-pos}
 use native.Mathlib.Omega.{arith}
 use borrow.Author.Tests.{ltb-false}
 use lib.Dec.{T, eqb, eqb→eq, ltb→lt}
@@ -15,7 +15,7 @@ use lib.Ieee.Exact.{HasValue}
 use lib.Ieee.Fits.{and-l, up-pos, down-pos}
 use lib.Ieee.Order.{le-of-values, round-mono, transfer}
 use lib.Ieee.Positive.{positive-of-value}
-use lib.Ieee.Scale.{finite}
+use lib.Ieee.Scale.{finite, round-same}
 use Rattle.float.specs.Float.{zeroF, oneF, absOf, maxOf, clampOf}
 use Rattle.float.specs.Bounds.{AtLeast, Small, Away, NotNegative, Unit}
 use Rattle.float.proofs.Order.{signed, le-of-not-lt, at-most}
@@ -149,6 +149,20 @@ unit-whole-quotient n d h D l = record {
   low = not-negative-div (not-negative-whole n) (away-whole d D l) (not-negative-whole d) .low;
   high = at-most-one (round binary32 false n 1) (round binary32 false d 1) n d (round-whole binary32 false n (le-trans h l)) (round-whole binary32 false d l) h D;
 }
+
+by-itself : (x : Float) (d : ℕ) → HasValue x false d 1 → 0 < d → div binary32 x x ≡ oneF
+by-itself (fin true m e) d v D = absurd (true≢false (v .0))
+by-itself (fin false m e) d v D =
+    let M : 0 < m = ltb→lt 0 m (positive-of-value (fin false m e) d 1 v D) in
+    let c = m * up e * down e in
+    div-round binary32 false m e false m e M
+    ∙ round-same binary32 false c c 1 1 (mul-pos (mul-pos M (up-pos e)) (down-pos e)) (pow-pos 0) (mul-comm c 1)
+    ∙ one-rounded
+
+-- A whole number by itself is 1.
+pub whole-by-itself : (d : ℕ) → 0 < d → d ≤ 2 ^ 24 → div binary32 (ofInt binary32 (pos d)) (ofInt binary32 (pos d)) ≡ oneF
+unfolding ofInt
+whole-by-itself d D l = by-itself (round binary32 false d 1) d (round-whole binary32 false d l) D
 
 -- What lies from 0 to 1 is at most 1 in size, and so finite.
 pub unit-small : {x : Float} → Unit x → Small 0 x

@@ -1,25 +1,29 @@
 -- The claims of specs/Claims.antt.
-use Prim.Native.Nat.{ℕ, suc, _+_, _-_, _*_, _/_, _%_, _^_, _<_}
-use mathlib.Core.Path.{_≡_, sym, ap, _∙_}
-use mathlib.Core.Bool.{Bool, true, false, cond}
+use Prim.Native.Nat.{ℕ, suc, _+_, _-_, _*_, _/_, _%_, _^_, _≤_, _<_, min, max}
+use mathlib.Core.Path.{_≡_, refl, sym, ap, _∙_, subst}
+use mathlib.Core.Bool.{Bool, true, false, cond, not, _&&_, true≢false}
 use mathlib.Core.List.{List, [], _∷_, nil≢cons, cons≢nil}
-use native.Mathlib.Nat.{div-le-self, lt-of-le-of-lt, le-of-lt, mod-lt, div-add-mod'}
+use native.Mathlib.Nat.{mod-lt, div-add-mod', le-trans, le-of-eq, div-one}
 use native.Mathlib.Omega.{arith}
-use borrow.Author.Tests.{lt-ltb}
-use lib.Dec.{leb, lit<}
+use borrow.Author.Tests.{lt-ltb, le-leb, leb-true, leb-false, ltb-false}
+use lib.Dec.{leb, ltb, lit<}
 use lib.IntN.{ℤ, pos, negsuc, negℤ, _+ℤ_}
 use lib.ListN.{getD}
-use lib.Ieee.{Float}
+use lib.Ieee.{Float, binary32, div, ofInt}
+use lib.Pow.{shr-lt, le-ones}
 use Rattle.laws.specs.Refusal.{rising}
 use Rattle.laws.proofs.Claims.{lowest-says}
-use Rattle.float.proofs.Small.{small-whole, away-whole, small-div}
-use Rattle.float.proofs.Range.{not-negative-whole, not-negative-div, unit-whole-quotient}
+use Rattle.float.proofs.Range.{unit-whole-quotient, whole-by-itself}
 use Rattle.plane.specs.declared.Sampled.the-variants as sampled
 use Rattle.plane.specs.declared.Coded.the-variants as coded
-use Rattle.plane.specs.Plane.{storedAt, startOf, shift, codeOf, fullCode, valueOf}
+use Rattle.plane.specs.declared.Shape.{Shape}
+use Rattle.plane.specs.declared.Layout.{Layout}
+use Rattle.plane.specs.declared.Layout.the-variants.{Planar, Luma, First, Second}
+use Rattle.plane.specs.Plane.{biplanar, storedAt, startOf, shift, wordOf, fullCode, codeOf, valueOf}
 use Rattle.plane.specs.Coordinates.{held, parityOf, biasOf}
-use Rattle.plane.specs.Claims.{AtSays, CodeSays, OneSampled, OneCoded, AllBytes, CodeFits, ValueFinite, ValueInUnit, BiasKeeps, BiasIsEven, ParityIsEuclidean}
-use Rattle.plane.proofs.Full.{full-least, full-most}
+use Rattle.plane.specs.Claims.{AtSays, CodeSays, OneSampled, OneCoded, AllBytes, CodeWithinDepth, ValueInUnit, WordWithinIsCode, WordAboveIsOne, mayExceed, OthersAreWithin, BiasKeeps, BiasIsEven, ParityIsEuclidean}
+use Rattle.plane.proofs.Full.{full-least, full-most, full-short}
+use Rattle.plane.proofs.Places.{no-shift}
 use Rattle.plane.proofs.Coordinates.{unbiased-bias, parity-unbiased}
 
 -- ---- refusals and answers
@@ -50,31 +54,76 @@ one-coded (coded.Refused n) (coded.Value w) p q = absurd (nil≢cons q)
 one-coded (coded.Refused n) (coded.Refused m) p q = ap coded.Refused p
 
 -- ---- codes and values
-stored-fits : (bytes : List ℕ) → AllBytes bytes → (depth i : ℕ) → storedAt bytes depth i < 2 ^ 16
-stored-fits bytes all depth i = go (leb depth 8)
+pub code-within-depth : CodeWithinDepth
+unfolding codeOf
+code-within-depth bytes s x y = omega arith
+
+pub value-in-unit : ValueInUnit
+unfolding valueOf
+value-in-unit bytes s x y =
+    let column = held (s .width) x in
+    let row = held (s .height) y in
+    unit-whole-quotient (codeOf bytes s column row) (fullCode (s .depth)) (code-within-depth bytes s column row) (full-least (s .depth)) (full-most (s .depth))
+
+pub word-within-is-code : WordWithinIsCode
+unfolding codeOf
+word-within-is-code bytes s x y h = omega arith
+
+pub word-above-is-one : WordAboveIsOne
+unfolding valueOf codeOf
+word-above-is-one bytes s x y h =
+    let full = fullCode (s .depth) in
+    let cut : min (wordOf bytes s (held (s .width) x) (held (s .height) y)) full ≡ full = omega arith in
+    ap (λ (code : ℕ). div binary32 (ofInt binary32 (pos code)) (ofInt binary32 (pos full))) cut
+    ∙ whole-by-itself full (full-least (s .depth)) (full-most (s .depth))
+
+-- a byte, and two bytes
+byte-within : (bytes : List ℕ) → AllBytes bytes → (depth i : ℕ) → depth ≤ 8 → storedAt bytes depth i ≤ fullCode depth
+byte-within bytes all depth i h = rw (le-leb depth 8 h) (omega (arith, all i, full-short depth h))
+
+pair-fits : (bytes : List ℕ) → AllBytes bytes → (depth i : ℕ) → storedAt bytes depth i < 2 ^ 16
+pair-fits bytes all depth i = go (leb depth 8)
   where
     go : (b : Bool) → cond b (getD bytes i 0) (getD bytes i 0 + 256 * getD bytes (i + 1) 0) < 2 ^ 16
     go true = omega (arith, all i)
     go false = omega (arith, all i, all (i + 1))
 
-pub code-fits : CodeFits
-unfolding codeOf
-code-fits bytes all s x y =
-    lt-of-le-of-lt (div-le-self (storedAt bytes (s .depth) (startOf s x y)) (2 ^ shift (s .layout) (s .depth))) (stored-fits bytes all (s .depth) (startOf s x y))
+-- a pair shifted right by 16 - depth, and one of 16 bits or more
+shifted-within : (pair depth : ℕ) → pair < 2 ^ 16 → 8 < depth → pair / 2 ^ (16 - depth) ≤ fullCode depth
+shifted-within pair depth fits h =
+    let d = max 8 (min depth 16) in
+    let k : 16 - depth ≡ 16 - d = omega arith in
+    let e : 16 ≡ d + (16 - d) = omega arith in
+    rw k (le-ones d (shr-lt d (16 - d) (subst (λ (n : ℕ). pair < 2 ^ n) e fits)))
 
-pub value-finite : ValueFinite
-unfolding valueOf
-value-finite bytes all s x y =
-    let code = codeOf bytes s (held (s .width) x) (held (s .height) y) in
-    let away = away-whole (fullCode (s .depth)) (full-least (s .depth)) (full-most (s .depth)) in (
-      small-div (small-whole 16 code (le-of-lt (code-fits bytes all s (held (s .width) x) (held (s .height) y))) tt) away tt,
-      not-negative-div (not-negative-whole code) away (not-negative-whole (fullCode (s .depth))),
-    )
+long-within : (pair depth : ℕ) → pair < 2 ^ 16 → 16 ≤ depth → pair / 2 ^ 0 ≤ fullCode depth
+long-within pair depth fits h =
+    let d : max 8 (min depth 16) ≡ 16 = omega arith in
+    rw d (omega arith)
 
-pub value-in-unit : ValueInUnit
-unfolding valueOf
-value-in-unit bytes s x y h =
-    unit-whole-quotient (codeOf bytes s (held (s .width) x) (held (s .height) y)) (fullCode (s .depth)) h (full-least (s .depth)) (full-most (s .depth))
+-- of a plane deeper than 8 bits, by its layout
+deep-within :
+    (layout : Layout) (pair depth : ℕ) → pair < 2 ^ 16 → (deep : leb 9 depth ≡ true) (short : Bool) → ltb depth 16 ≡ short →
+    (short && not (biplanar layout)) ≡ false → pair / 2 ^ shift layout depth ≤ fullCode depth
+deep-within Planar pair depth fits deep true s e = absurd (true≢false e)
+deep-within Planar pair depth fits deep false s e = long-within pair depth fits (ltb-false depth 16 s)
+deep-within Luma pair depth fits deep short s e = rw deep (shifted-within pair depth fits (leb-true 9 depth deep))
+deep-within First pair depth fits deep short s e = rw deep (shifted-within pair depth fits (leb-true 9 depth deep))
+deep-within Second pair depth fits deep short s e = rw deep (shifted-within pair depth fits (leb-true 9 depth deep))
+
+word-within : (bytes : List ℕ) → AllBytes bytes → (s : Shape) → mayExceed (s .layout) (s .depth) ≡ false → (x y : ℕ) → wordOf bytes s x y ≤ fullCode (s .depth)
+word-within bytes all s e x y = go (leb 9 (s .depth)) refl
+  where
+    go : (b : Bool) → leb 9 (s .depth) ≡ b → wordOf bytes s x y ≤ fullCode (s .depth)
+    go false h =
+        rw (no-shift (s .layout) (s .depth) h) (le-trans (le-of-eq (div-one (storedAt bytes (s .depth) (startOf s x y))))
+        (byte-within bytes all (s .depth) (startOf s x y) (omega (arith, leb-false 9 (s .depth) h))))
+    go true h =
+        deep-within (s .layout) (storedAt bytes (s .depth) (startOf s x y)) (s .depth) (pair-fits bytes all (s .depth) (startOf s x y)) h
+        (ltb (s .depth) 16) refl (rw (lt-ltb 8 (s .depth) (leb-true 9 (s .depth) h)) at e)
+
+pub others-are-within : OthersAreWithin
+others-are-within bytes all s e x y = word-within-is-code bytes s x y (word-within bytes all s e x y)
 
 -- ---- coordinates
 pub bias-keeps : BiasKeeps

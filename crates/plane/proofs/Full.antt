@@ -1,5 +1,6 @@
--- The largest code of a depth is a number that a float holds exactly, and not 0.
+-- The largest code of a depth: a number that a float holds exactly, and not 0.
 use Prim.Native.Nat.{ℕ, _-_, _^_, _≤_, _<_, min, max}
+use mathlib.Core.Path.{_≡_, refl}
 use native.Mathlib.Omega.{arith}
 use lib.Pow.{pow-mono}
 use Rattle.plane.specs.Plane.{fullCode}
@@ -12,3 +13,9 @@ full-least depth = omega (arith, pow-mono (depths depth .0))
 
 pub full-most : (depth : ℕ) → fullCode depth ≤ 2 ^ 24
 full-most depth = omega (arith, pow-mono (depths depth .1))
+
+-- at 8 bits it is 255
+pub full-short : (depth : ℕ) → depth ≤ 8 → fullCode depth ≡ 255
+full-short depth h =
+    let d : max 8 (min depth 16) ≡ 8 = omega arith in
+    rw d refl

@@ -1,16 +1,19 @@
 -- What the definitions and contracts of `plane` come to. proofs/Claims.antt proves each claim under its name in small letters.
-use Prim.Native.Nat.{ℕ, _<_, _≤_, _^_}
+use Prim.Native.Nat.{ℕ, _<_, _≤_}
 use mathlib.Core.Path.{_≡_}
-use mathlib.Core.Bool.{true}
+use mathlib.Core.Bool.{Bool, true, false, not, _&&_}
 use mathlib.Core.List.{List}
+use lib.Dec.{ltb}
 use lib.IntN.{ℤ, pos, _+ℤ_, _*ℤ_}
 use lib.ListN.{getD}
 use Rattle.laws.specs.Refusal.{Says}
-use Rattle.float.specs.Bounds.{Small, NotNegative, Unit}
+use Rattle.float.specs.Float.{oneF}
+use Rattle.float.specs.Bounds.{Unit}
 use Rattle.plane.specs.declared.Shape.{Shape}
 use Rattle.plane.specs.declared.Sampled.{Sampled}
 use Rattle.plane.specs.declared.Coded.{Coded}
-use Rattle.plane.specs.Plane.{codeOf, fullCode, valueOf}
+use Rattle.plane.specs.declared.Layout.{Layout}
+use Rattle.plane.specs.Plane.{biplanar, wordOf, fullCode, codeOf, valueOf}
 use Rattle.plane.specs.Coordinates.{inReach, held, parityOf, biasOf, unbiased}
 use Rattle.plane.specs.Answer.{sampledNo, sampledValues, codedNo, codedValues, codeTests, atTests}
 
@@ -32,18 +35,32 @@ OneCoded = (a b : Coded) → codedNo a ≡ codedNo b → codedValues a ≡ coded
 abbrev pub AllBytes : List ℕ → Type 0
 AllBytes bytes = (i : ℕ) → getD bytes i 0 < 256
 
--- a code fits 16 bits, whatever the shape
-abbrev pub CodeFits : Type 0
-CodeFits = (bytes : List ℕ) → AllBytes bytes → (s : Shape) (x y : ℕ) → codeOf bytes s x y < 2 ^ 16
+-- A code is at most the largest of its depth, of any list and any shape,
+abbrev pub CodeWithinDepth : Type 0
+CodeWithinDepth = (bytes : List ℕ) (s : Shape) (x y : ℕ) → codeOf bytes s x y ≤ fullCode (s .depth)
 
--- every value is finite, at most 2 ^ 16 in size and not negative
-abbrev pub ValueFinite : Type 0
-ValueFinite = (bytes : List ℕ) → AllBytes bytes → (s : Shape) (x y : ℤ) → Small 16 (valueOf bytes s x y) × NotNegative (valueOf bytes s x y)
-
--- and it lies in 0..1 where the code is at most 2 ^ depth - 1
+-- so that every value lies in 0..1.
 abbrev pub ValueInUnit : Type 0
-ValueInUnit =
-    (bytes : List ℕ) (s : Shape) (x y : ℤ) → codeOf bytes s (held (s .width) x) (held (s .height) y) ≤ fullCode (s .depth) → Unit (valueOf bytes s x y)
+ValueInUnit = (bytes : List ℕ) (s : Shape) (x y : ℤ) → Unit (valueOf bytes s x y)
+
+-- A word that is not above the largest code is the code,
+abbrev pub WordWithinIsCode : Type 0
+WordWithinIsCode = (bytes : List ℕ) (s : Shape) (x y : ℕ) → wordOf bytes s x y ≤ fullCode (s .depth) → codeOf bytes s x y ≡ wordOf bytes s x y
+
+-- and one that is reads as 1.
+abbrev pub WordAboveIsOne : Type 0
+WordAboveIsOne =
+    (bytes : List ℕ) (s : Shape) (x y : ℤ) →
+    fullCode (s .depth) ≤ wordOf bytes s (held (s .width) x) (held (s .height) y) → valueOf bytes s x y ≡ oneF
+
+-- whether a word of bytes may be above the largest code: a planar one from 9 to 15 bits deep
+abbrev pub mayExceed : Layout → ℕ → Bool
+mayExceed layout depth = ltb 8 depth && ltb depth 16 && not (biplanar layout)
+
+-- Of the other planes every word is a code.
+abbrev pub OthersAreWithin : Type 0
+OthersAreWithin =
+    (bytes : List ℕ) → AllBytes bytes → (s : Shape) → mayExceed (s .layout) (s .depth) ≡ false → (x y : ℕ) → codeOf bytes s x y ≡ wordOf bytes s x y
 
 -- What the bias means: the held coordinate is the signed one, and a row's parity is that of its held coordinate.
 abbrev pub BiasKeeps : Type 0

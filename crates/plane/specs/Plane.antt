@@ -80,19 +80,19 @@ biplanar Second = true
 abbrev pub shift : Layout → ℕ → ℕ
 shift layout depth = cond (biplanar layout && leb 9 depth) (16 - depth) 0
 
--- the number stored at a place, shifted, and otherwise read as it stands
+-- the number stored at a place, shifted: what readback copies
 abbrev pub wordOf : List ℕ → Shape → ℕ → ℕ → ℕ
 wordOf bytes s x y = storedAt bytes (s .depth) (startOf s x y) / 2 ^ shift (s .layout) (s .depth)
-
--- What a code is, in every crate.
-unfoldable pub codeOf : List ℕ → Shape → ℕ → ℕ → ℕ
-codeOf bytes s x y = wordOf bytes s x y
-
--- ---- values
 
 -- The largest code of a depth, 2 ^ depth - 1, a depth outside 8 .. 16 taken for the nearer end.
 abbrev pub fullCode : ℕ → ℕ
 fullCode depth = 2 ^ max 8 (min depth 16) - 1
+
+-- What a code is, in every crate: a number above the largest code of its depth counts as that.
+unfoldable pub codeOf : List ℕ → Shape → ℕ → ℕ → ℕ
+codeOf bytes s x y = min (wordOf bytes s x y) (fullCode (s .depth))
+
+-- ---- values
 
 -- `at` clamps each coordinate to the plane and divides the code by 2 ^ depth - 1: one rounding.
 unfoldable pub valueOf : List ℕ → Shape → ℤ → ℤ → Float

@@ -7,13 +7,10 @@
 // of every shape a u64, and a read past the end gives 0, so the public functions below the two reads
 // take every input too.
 ghost use mathlib.Core.Path.{_≡_};
-ghost use Prim.Native.Nat.{_+_, _*_, _-_, _<_, _≤_, _^_, min, max};
-ghost use lib.IntN.{pos};
+ghost use Prim.Native.Nat.{_+_, _*_, _-_, _/_, _<_, _≤_, _^_, min, max};
 ghost use lib.ListN.{getD};
-ghost use lib.Ieee as Ieee;
-ghost use lib.Ieee.{binary32};
 ghost use Rattle.laws.specs.Refusal.{lowest};
-ghost use Rattle.float.specs.Bounds.{Small};
+ghost use Rattle.float.specs.Bounds.{Unit};
 ghost use Rattle.plane.specs.Plane.{components, component, alone, sampleBytes, goodShape, planeBytes, gridShape, startOf, storedAt, biplanar, shift, codeOf, fullCode, valueOf, agree, half, chromaAgrees, planarOf, biplanarOf};
 ghost use Rattle.plane.specs.Coordinates.{inReach, inside, held, parityOf, biasOf, unbiased};
 ghost use Rattle.plane.specs.Answer.{readTests, GivesCode, GivesValue};
@@ -239,12 +236,44 @@ pub fn shift_of(layout: Layout, depth: u8) -> u8
     }
 }
 
+fn within_depths(depth: u8) -> u32
+    ensures { λ r. ⌜ (r ≡ max 8 (min depth 16)) × (8 ≤ r) × (r ≤ 16) ⌝ }
+{
+    if depth < 8 {
+        return 8;
+    }
+    if 16 < depth { 16 } else { depth as u32 }
+}
+
+// 2^depth - 1, the largest code of a depth.
+pub fn full_code(depth: u8) -> u16
+    ensures { λ r. ⌜ r ≡ fullCode depth ⌝ }
+{
+    ((1u32 << within_depths(depth)) - 1) as u16
+}
+
+fn shifted(word: u16, right: u8) -> u16
+    requires { ⌜ right ≤ 7 ⌝ }
+    ensures { λ r. ⌜ r ≡ word / 2 ^ right ⌝ }
+{
+    word >> right
+}
+
+// A capture card may leave stray bits above a code: a word above the largest code counts as that.
+pub fn cut(word: u16, full: u16) -> u16
+    ensures { λ r. ⌜ (r ≡ min word full) × (r ≤ full) ⌝ }
+{
+    if word < full { word } else { full }
+}
+
 // A code, of any shape; 0 past the end.
 pub fn code_at(plane: &[u8], s: Shape, x: u16, y: u16) -> u16
     ensures { λ r. ⌜ r ≡ codeOf (now (plane .entry)) s x y ⌝ }
 {
     let layout = s.layout;
-    stored_at(plane, s.depth, start_of(s, x, y)) >> shift_of(layout, s.depth)
+    let stored = stored_at(plane, s.depth, start_of(s, x, y));
+    let right = shift_of(layout, s.depth);
+    cut(shifted(stored, right), full_code(s.depth))
 }
 
 // The coordinate c - 65,544 brought into 0 .. size - 1.
@@ -262,29 +291,13 @@ fn hold(size: u16, c: u32) -> u16
     }
 }
 
-// 2^depth - 1 as a float, which holds it exactly.
-pub fn full_value(depth: u8) -> f32
-    ensures { λ r. ⌜ r ≡ Ieee.ofInt binary32 (pos (fullCode depth)) ⌝ }
-{
-    ((1u32 << within_depths(depth)) - 1) as f32
-}
-
-fn within_depths(depth: u8) -> u32
-    ensures { λ r. ⌜ (r ≡ max 8 (min depth 16)) × (8 ≤ r) × (r ≤ 16) ⌝ }
-{
-    if depth < 8 {
-        return 8;
-    }
-    if 16 < depth { 16 } else { depth as u32 }
-}
-
 // The value at held coordinates (`biased`), of any shape.
 pub fn value_at(plane: &[u8], s: Shape, x: u32, y: u32) -> f32
-    ensures { λ r. ⌜ (r ≡ valueOf (now (plane .entry)) s (unbiased x) (unbiased y)) × Small 16 r ⌝ }
+    ensures { λ r. ⌜ (r ≡ valueOf (now (plane .entry)) s (unbiased x) (unbiased y)) × Unit r ⌝ }
 {
     let column = hold(s.width, x);
     let row = hold(s.height, y);
-    (code_at(plane, s, column, row) as f32) / full_value(s.depth)
+    (code_at(plane, s, column, row) as f32) / (full_code(s.depth) as f32)
 }
 
 pub fn in_reach(x: i32) -> bool

@@ -12,23 +12,18 @@ stored-at-requires c κs = search needs
 shift-of-requires : tie.Need-shift-of-requires
 shift-of-requires c κs = search needs
 
-cast-result : tie.Need-cast-result
-cast-result c = search needs
+shifted-requires : tie.Need-shifted-requires
+shifted-requires c κs = search needs
 
-shr-result : tie.Need-shr-result
-shr-result c = search needs
+full-code-requires : tie.Need-full-code-requires
+full-code-requires c κs = search needs
+
+cut-requires : tie.Need-cut-requires
+cut-requires c κs = search needs
 
 returns : tie.Need-returns
 unfolding codeOf
 returns c = cc
 
 pub code-at-spec : {M : Type 1} → statement M
-code-at-spec =
-    tie.close
-    (tie.spec
-    start-of-requires
-    stored-at-requires
-    shift-of-requires
-    cast-result
-    shr-result
-    returns)
+code-at-spec = tie.close (tie.spec start-of-requires stored-at-requires shift-of-requires shifted-requires full-code-requires cut-requires returns)

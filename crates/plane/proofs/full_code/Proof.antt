@@ -2,13 +2,11 @@ use mathlib.Core.Path.{_≡_, sym, ap, subst, _∙_}
 use Prim.Native.Nat.{ℕ, _*_, _-_, _%_, _^_, _≤_, _<_}
 use native.Mathlib.Nat.{mod-eq-of-lt, one-mul, lt-of-le-of-lt}
 use native.Mathlib.Omega.{arith}
-use lib.Dec.{lit<, le→leb}
-use lib.IntN.{pos}
+use lib.Dec.{lit<}
 use lib.Pow.{pow-pos, pow-mono}
-use lib.Ieee.{binary32, inFloat, ofInt}
 use borrow.Author.Needs.{needs}
-use Rattle.plane.proofs.full_value.Statement.{statement}
-use Rattle.plane.proofs.full_value.Tie as tie
+use Rattle.plane.proofs.full_code.Statement.{statement}
+use Rattle.plane.proofs.full_code.Tie as tie
 
 -- 1 shifted left by at most 16 places
 power : (d : ℕ) → d ≤ 16 → 2 ^ d ≤ 65536
@@ -26,13 +24,12 @@ shl-result c = search needs
 sub-result : tie.Need-sub-result
 sub-result c = subst (λ (n : ℕ). 1 ≤ n) (sym (shifted _ (c .within-depths .ensures .2))) (pow-pos (c .within-depths .result))
 
-int-to-float-result : tie.Need-int-to-float-result
-unfolding inFloat
-int-to-float-result c = le→leb (1 * 2 ^ c .before .within-depths .result % 4294967296 - 1) (2 ^ 24) (omega (arith, shifted _ (c .before .within-depths .ensures .2), power _ (c .before .within-depths .ensures .2)))
+cast-result : tie.Need-cast-result
+cast-result c = omega (arith, shifted _ (c .within-depths .ensures .2), power _ (c .within-depths .ensures .2))
 
 returns : tie.Need-returns
-returns c = ap (λ (n : ℕ). ofInt binary32 (pos (n - 1))) (shifted _ (c .before .within-depths .ensures .2)) ∙ ap (λ (d : ℕ). ofInt binary32 (pos (2 ^ d - 1))) (c .before .within-depths .ensures .0)
+returns c =
+    ap (λ (n : ℕ). n - 1) (shifted _ (c .within-depths .ensures .2)) ∙ ap (λ (d : ℕ). 2 ^ d - 1) (c .within-depths .ensures .0)
 
-pub full-value-spec : {M : Type 1} → statement M
-full-value-spec =
-    tie.close (tie.spec within-depths-requires shl-result sub-result int-to-float-result returns)
+pub full-code-spec : {M : Type 1} → statement M
+full-code-spec = tie.close (tie.spec within-depths-requires shl-result sub-result cast-result returns)
