@@ -1,26 +1,62 @@
 -- The claims of `specs/Claims.antt`, most of them laws under another name.
 use mathlib.Core.Path.{_≡_, refl, sym, subst, ap₂}
-use mathlib.Core.Bool.{Bool, true, _&&_}
+use mathlib.Core.Bool.{Bool, true, false, _&&_}
+use mathlib.Core.List.{List}
 use Prim.Native.Nat.{ℕ, _≤_, zero-le}
 use borrow.Author.Tests.{le-leb}
-use lib.Dec.{leb, lit≤}
+use lib.Dec.{leb, eqb, lit≤}
+use lib.IntN.{ℤ}
 use Rattle.laws.specs.Refusal.{rising}
 use Rattle.laws.proofs.Claims.{lowest-says}
 use Rattle.float.specs.Bounds.{Unit}
-use Rattle.plane.proofs.Claims.{value-finite}
+use Rattle.float.proofs.Small.{choice, small-more}
+use Rattle.float.proofs.Range.{unit-small}
+use Rattle.plane.specs.Plane.{valueOf}
+use Rattle.plane.specs.Coordinates.{parityOf}
+use Rattle.plane.proofs.Claims.{value-in-unit}
 use Rattle.field.specs.declared.Chosen.{Chosen}
 use Rattle.field.specs.declared.Chosen.the-variants as chosen
 use Rattle.field.specs.declared.Parity.the-variants as parity
-use Rattle.filter.specs.Rows.{firstRowOr}
-use Rattle.filter.specs.declared.Quality.the-variants.{Weave}
+use Rattle.filter.specs.Rows.{firstRowOr, weaves}
+use Rattle.filter.specs.declared.Quality.{Quality}
+use Rattle.filter.specs.declared.Quality.the-variants.{Weave, Bob, Yadif, Bwdif}
+use Rattle.filter.specs.declared.Making.{Making}
+use Rattle.filter.specs.Filter.{madeOf, sampleOf}
+use Rattle.filter.specs.Making.{ofPlanes}
 use Rattle.filter.specs.declared.Edged.the-variants as edged
-use Rattle.filter.specs.Claims.{PlaneIsReadable, MadeInUnit, ShownIsOwn, WeaveTakesMate, EndsOrdered, EdgeInReach, EdgeIsEarliestLeast, ScoresCompare, EdgeSays, SampleSays, OutputRowsGood, FieldRowsGood, OneEdged}
+use Rattle.filter.specs.Claims.{PlaneIsReadable, SampleInUnit, MadeInUnit, ShownIsOwn, WeaveTakesMate, EndsOrdered, EdgeInReach, EdgeIsEarliestLeast, ScoresCompare, EdgeSays, SampleSays, OutputRowsGood, FieldRowsGood, OneEdged}
 use Rattle.filter.proofs.Sizes as sizes
 use Rattle.filter.proofs.Samples.{woven-mate, woven-own, shown-own, missing-made}
 use Rattle.filter.proofs.Slants as tries
 
 pub plane-is-readable : PlaneIsReadable
-plane-is-readable bytes s all x y = value-finite bytes all s x y .0
+plane-is-readable bytes s x y = small-more 16 (unit-small (value-in-unit bytes s x y)) tt
+
+-- a row that a plane has lies from 0 to 1, and one that is made of three planes too
+module _ (making : Making) (before cur after : List ℕ) (x y : ℤ) where
+  taken : Unit (valueOf before (making .before) x y)
+  taken = value-in-unit before (making .before) x y
+
+  own : Unit (valueOf cur (making .cur) x y)
+  own = value-in-unit cur (making .cur) x y
+
+  filled : (quality : Quality) → weaves quality ≡ false → Unit (ofPlanes (madeOf quality) making before cur after x y)
+  filled quality w =
+      sizes.made-in-unit (valueOf before (making .before)) (valueOf cur (making .cur)) (valueOf after (making .after))
+      (plane-is-readable before (making .before)) (plane-is-readable cur (making .cur)) (plane-is-readable after (making .after)) x y quality w
+
+  abbrev shown : Bool
+  shown = eqb (parityOf y) (making .rows .first)
+
+  of-quality : (quality : Quality) → Unit (ofPlanes (sampleOf quality (making .rows)) making before cur after x y)
+  unfolding sampleOf
+  of-quality Weave = choice Unit (eqb (parityOf y) (making .rows .mate)) taken own
+  of-quality Bob = choice Unit shown own (filled Bob refl)
+  of-quality Yadif = choice Unit shown own (filled Yadif refl)
+  of-quality Bwdif = choice Unit shown own (filled Bwdif refl)
+
+pub sample-in-unit : SampleInUnit
+sample-in-unit making before cur after x y = of-quality making before cur after x y (making .quality)
 
 pub made-in-unit : MadeInUnit
 made-in-unit quality rows before cur after b c a x y w h =

@@ -1,11 +1,10 @@
 -- What holds of the definitions here. `proofs/Claims.antt` proves each under the same name in small letters.
-use Prim.Native.Nat.{ℕ, _≤_, _<_}
+use Prim.Native.Nat.{ℕ, _≤_}
 use mathlib.Core.Path.{_≡_}
 use mathlib.Core.Bool.{true, false, cond}
 use mathlib.Core.List.{List, [], _∷_, _++_, List·Memᴰ}
 use lib.Dec.{T, eqb}
 use lib.IntN.{ℤ, pos, negsuc, natAbs}
-use lib.ListN.{getD}
 use lib.Ieee.{Float, binary32, add, sub, lt, le}
 use Rattle.laws.specs.Refusal.{Says}
 use Rattle.float.specs.Bounds.{Small, Unit}
@@ -22,17 +21,22 @@ use Rattle.filter.specs.declared.Making.{Making}
 use Rattle.filter.specs.declared.Edged.{Edged}
 use Rattle.filter.specs.Filter.{Sampler, averageOf, movedOf, scoreOf, slantedOf, edgeOf, sampleOf}
 use Rattle.filter.specs.Rows.{weaves, goodRows, rowsOf, fieldRowsOf}
+use Rattle.filter.specs.Making.{sampleIn}
 use Rattle.filter.specs.Answer.{edgedNo, edgedValues, edgeTests, sampleTests}
 
 -- ---- values
 
--- the values are finite and at most 2 ^ 16 in size, as those of a plane are, with over-range codes among them
+-- the values are finite and at most 2 ^ 16 in size
 abbrev pub Readable : Sampler → Type 0
 Readable sampler = (x y : ℤ) → Small 16 (sampler x y)
 
--- A plane of bytes is readable, whatever its shape.
+-- A plane is readable, whatever its bytes and its shape.
 abbrev pub PlaneIsReadable : Type 0
-PlaneIsReadable = (bytes : List ℕ) (s : Shape) → ((i : ℕ) → getD bytes i 0 < 256) → Readable (valueOf bytes s)
+PlaneIsReadable = (bytes : List ℕ) (s : Shape) → Readable (valueOf bytes s)
+
+-- Every sample of three planes lies from 0 to 1, whatever their bytes and shapes: one that is made, one of the shown field, one that Weave takes.
+abbrev pub SampleInUnit : Type 0
+SampleInUnit = (making : Making) (before cur after : List ℕ) (x y : ℤ) → Unit (sampleIn making before cur after x y)
 
 -- A row that Bob, Yadif or Bwdif makes lies from 0 to 1, so it has no NaN.
 abbrev pub MadeInUnit : Type 0

@@ -65,10 +65,14 @@ small-round {k} f s a c C h t =
     (small-value k l (q * 2 ^ d) s (units f s q d) (units-val f s q d (lt-of-le-of-lt g (pow-lt (beyond k l (emax f) (leb→le k (emax f) t))))) g)
 
 -- ---- a choice, and so what only chooses
--- Of two values at most 2 ^ k, either is at most 2 ^ k, whatever chooses.
-pub small-choice : {k : ℕ} {x y : Float} (b : Bool) → Small k x → Small k y → Small k (cond b x y)
-small-choice true p q = p
-small-choice false p q = q
+-- What holds of both values holds of either, whatever chooses.
+pub choice : (P : Float → Type 0) {x y : Float} (b : Bool) → P x → P y → P (cond b x y)
+choice P true p q = p
+choice P false p q = q
+
+-- Of two values at most 2 ^ k, either is at most 2 ^ k.
+small-choice : {k : ℕ} {x y : Float} (b : Bool) → Small k x → Small k y → Small k (cond b x y)
+small-choice {k} = choice (Small k)
 
 -- So is the lesser.
 pub small-min : {k : ℕ} {x y : Float} → Small k x → Small k y → Small k (minOf x y)
