@@ -1,6 +1,6 @@
 -- What a call that gets 0 has passed, and whose codes its rows have.
-use Prim.Native.Nat.{ℕ, _+_, _-_, _*_, _≤_}
-use mathlib.Core.Path.{_≡_, sym, ap, ap₂, _∙_}
+use Prim.Native.Nat.{ℕ, _+_, _-_, _*_, _/_, _^_, _≤_, _<_, min}
+use mathlib.Core.Path.{_≡_, refl, sym, ap, ap₂, _∙_}
 use mathlib.Core.Bool.{Bool, true, false, cond, _&&_, and-eq-true-iff}
 use mathlib.Core.List.{List, [], _∷_}
 use native.Mathlib.Nat.{mul-assoc, suc-mul, div-one}
@@ -11,7 +11,9 @@ use lib.ListN.{getD}
 use lib.Seq.{getD-drop}
 use Rattle.laws.specs.Refusal.{lowest}
 use Rattle.laws.proofs.Refusal.{first-passes, rest-passes}
-use Rattle.plane.specs.Plane.{goodShape, planeBytes, unshifted, codeOf}
+use Rattle.plane.specs.Plane.{goodShape, planeBytes, unshifted, fullCode, codeOf}
+use Rattle.plane.specs.Claims.{AllBytes}
+use Rattle.plane.proofs.Full.{full-short}
 use Rattle.comb.specs.Comb.{combOf, planeComb, greenAt, rgbaComb}
 use Rattle.comb.specs.Answer.{combNo, rgbaNo}
 use Rattle.comb.specs.Rows.{kindOf, sizeOf, codesOf}
@@ -37,9 +39,9 @@ module _ (width height : ℕ) (h : (leb 1 width && leb width 8192 && leb 1 heigh
   tall = leb-true 1 height (right (leb 1 width && leb width 8192) (leb 1 height) (left _ _ h))
 
 -- ---- `comb`: a row is narrow, and the last stands within the plane
-size-of-sample : (width : ℕ) (byte : Bool) → width * 1 * cond byte 1 2 ≡ width * sizeOf (cond byte Byte Pair)
-size-of-sample width true = omega arith
-size-of-sample width false = omega arith
+size-of-sample : (width full : ℕ) (byte : Bool) → width * 1 * cond byte 1 2 ≡ width * sizeOf (cond byte Byte (Pair full))
+size-of-sample width full true = omega arith
+size-of-sample width full false = omega arith
 
 module _ (width height depth stride bytes : ℕ) {no : ℕ} (e : no ≡ combNo width height depth stride bytes) (done : no ≡ 0) where
   pub plane-narrow : width ≤ 8192
@@ -49,7 +51,7 @@ module _ (width height depth stride bytes : ℕ) {no : ℕ} (e : no ≡ combNo w
   pub plane-long : {kind : Kind} → kind ≡ kindOf depth → (height - 1) * stride + width * sizeOf kind ≤ bytes
   plane-long k =
       let long : planeBytes (unshifted width height depth stride) ≤ bytes = leb-true _ _ (passed _ _ (sym e ∙ done) .1) in
-      rw k (omega (arith, size-of-sample width (leb depth 8)))
+      rw k (omega (arith, size-of-sample width (fullCode depth) (leb depth 8)))
 
 -- ---- `comb_rgba`: the same
 rows-of : (height row : ℕ) → 1 ≤ height → (height - 1) * row + row ≡ height * row
@@ -65,30 +67,41 @@ module _ (width height bytes : ℕ) {no : ℕ} (e : no ≡ rgbaNo width height b
       omega (arith, rows-of height (width * 4) (tall width height (passed _ _ (sym e ∙ done) .0)), mul-assoc height width 4)
 
 -- ---- codes, of every column and row: past the end both sides are 0
--- rows of one or two bytes a sample have the codes of the planar shape
+-- rows of one or two bytes a sample, by their bytes
 code-by-size :
-    (byte : Bool) (bytes : List ℕ) (stride x y : ℕ) →
+    (byte : Bool) (full : ℕ) (bytes : List ℕ) (stride x y : ℕ) →
     let start = y * stride + (x * 1 + 0) * cond byte 1 2 in
-    codesOf (cond byte Byte Pair) bytes stride x y ≡ cond byte (getD bytes start 0) (getD bytes start 0 + 256 * getD bytes (start + 1) 0)
-code-by-size true bytes stride x y = getD-drop (y * stride) bytes x 0 ∙ ap (λ (i : ℕ). getD bytes i 0) (omega arith)
-code-by-size false bytes stride x y = ap₂ (λ (low high : ℕ). low + 256 * high)
+    codesOf (cond byte Byte (Pair full)) bytes stride x y ≡ cond byte (getD bytes start 0) (min (getD bytes start 0 + 256 * getD bytes (start + 1) 0) full)
+code-by-size true full bytes stride x y = getD-drop (y * stride) bytes x 0 ∙ ap (λ (i : ℕ). getD bytes i 0) (omega arith)
+code-by-size false full bytes stride x y = ap₂ (λ (low high : ℕ). min (low + 256 * high) full)
     (getD-drop (y * stride) bytes (x * 2) 0 ∙ ap (λ (i : ℕ). getD bytes i 0) (omega arith))
     (getD-drop (y * stride) bytes (x * 2 + 1) 0 ∙ ap (λ (i : ℕ). getD bytes i 0) (omega arith))
 
+-- a byte is never above the largest code, so that only pairs are cut
+only-pairs-cut :
+    (depth byte pair : ℕ) → byte < 256 →
+    cond (leb depth 8) byte (min pair (fullCode depth)) ≡ min (cond (leb depth 8) byte pair / 2 ^ 0) (fullCode depth)
+only-pairs-cut depth byte pair l = go (leb depth 8) refl
+  where
+    go : (b : Bool) → leb depth 8 ≡ b → cond b byte (min pair (fullCode depth)) ≡ min (cond b byte pair / 2 ^ 0) (fullCode depth)
+    go true e = rw (div-one byte) (omega (arith, full-short depth (leb-true depth 8 e)))
+    go false e = rw (div-one pair) refl
+
 plane-code :
-    (bytes : List ℕ) (width height depth stride x y : ℕ) →
+    (bytes : List ℕ) → AllBytes bytes → (width height depth stride x y : ℕ) →
     codesOf (kindOf depth) bytes stride x y ≡ codeOf bytes (unshifted width height depth stride) x y
 unfolding codeOf
-plane-code bytes width height depth stride x y = code-by-size (leb depth 8) bytes stride x y ∙ sym (div-one _)
+plane-code bytes all width height depth stride x y =
+    code-by-size (leb depth 8) (fullCode depth) bytes stride x y ∙ only-pairs-cut depth _ _ (all _)
 
 pub plane-total :
-    (bytes : List ℕ) (width height depth stride : ℕ) {kind : Kind} {total : ℕ} →
+    (bytes : List ℕ) → AllBytes bytes → (width height depth stride : ℕ) {kind : Kind} {total : ℕ} →
     kind ≡ kindOf depth → total ≡ combOf (codesOf kind bytes stride) width height → total ≡ planeComb bytes width height depth stride
 unfolding planeComb
-plane-total bytes width height depth stride k e =
+plane-total bytes all width height depth stride k e =
     e
     ∙ (λ i. combOf (codesOf (k i) bytes stride) width height)
-    ∙ (λ i. combOf (λ x y. plane-code bytes width height depth stride x y i) width height)
+    ∙ (λ i. combOf (λ x y. plane-code bytes all width height depth stride x y i) width height)
 
 -- rows of four bytes a pixel have the greens
 green-code : (rgba : List ℕ) (width x y : ℕ) → codesOf Green rgba (width * 4) x y ≡ greenAt rgba width x y

@@ -1,5 +1,5 @@
 -- Laws of rows: what three rows lent as parts of a plane have, and that their bends are those of the plane's codes.
-use Prim.Native.Nat.{ℕ, _+_, _-_, _*_, _≤_, _<_}
+use Prim.Native.Nat.{ℕ, _+_, _-_, _*_, _≤_, _<_, min}
 use mathlib.Core.Path.{_≡_, refl, ap, ap₂, _∙_}
 use mathlib.Core.List.{List}
 use native.Mathlib.Nat.{add-mul, mul-le-mul-right}
@@ -35,8 +35,8 @@ two-below y height stride h =
 -- in each of its columns it has the code that stands there without the cut
 part-code : (kind : Kind) (bytes : List ℕ) (width x : ℕ) → x < width → codeIn kind (take (width * sizeOf kind) bytes) x ≡ codeIn kind bytes x
 part-code Byte bytes width x h = getD-take (width * 1) bytes x 0 (omega arith)
-part-code Pair bytes width x h =
-    ap₂ (λ (low high : ℕ). low + 256 * high) (getD-take (width * 2) bytes (x * 2) 0 (omega arith)) (getD-take (width * 2) bytes (x * 2 + 1) 0 (omega arith))
+part-code (Pair full) bytes width x h =
+    ap₂ (λ (low high : ℕ). min (low + 256 * high) full) (getD-take (width * 2) bytes (x * 2) 0 (omega arith)) (getD-take (width * 2) bytes (x * 2 + 1) 0 (omega arith))
 part-code Green bytes width x h = getD-take (width * 4) bytes (x * 4 + 1) 0 (omega arith)
 
 -- row y of a plane, lent as a part, has the plane's codes

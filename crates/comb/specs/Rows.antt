@@ -1,27 +1,28 @@
 -- How the private functions read a row: where in its bytes a column's code stands. No public contract cites this file.
-use Prim.Native.Nat.{ℕ, _+_, _*_, _≤_}
+use Prim.Native.Nat.{ℕ, _+_, _*_, _≤_, min}
 use mathlib.Core.Path.{_≡_}
 use mathlib.Core.Bool.{cond}
 use mathlib.Core.List.{List}
 use lib.Dec.{leb}
 use lib.ListN.{length, getD, drop}
 use Rattle.laws.specs.Sums.{apart}
+use Rattle.plane.specs.Plane.{fullCode}
 use Rattle.comb.specs.declared.Kind.{Kind}
 use Rattle.comb.specs.declared.Kind.the-variants.{Byte, Pair, Green}
 
 abbrev pub kindOf : ℕ → Kind
-kindOf depth = cond (leb depth 8) Byte Pair
+kindOf depth = cond (leb depth 8) Byte (Pair (fullCode depth))
 
 -- how many bytes of a row a column has
 abbrev pub sizeOf : Kind → ℕ
 sizeOf Byte = 1
-sizeOf Pair = 2
+sizeOf (Pair full) = 2
 sizeOf Green = 4
 
 -- the code in column x of a row
 abbrev pub codeIn : Kind → List ℕ → ℕ → ℕ
 codeIn Byte row x = getD row x 0
-codeIn Pair row x = getD row (x * 2) 0 + 256 * getD row (x * 2 + 1) 0
+codeIn (Pair full) row x = min (getD row (x * 2) 0 + 256 * getD row (x * 2 + 1) 0) full
 codeIn Green row x = getD row (x * 4 + 1) 0
 
 -- |2 * here - up - down| in column x of three rows

@@ -25,8 +25,8 @@ pub enum Combed {
 enum Kind {
     // One byte.
     Byte,
-    // Two bytes, the low one first.
-    Pair,
+    // Two bytes, the low one first, and at most this number.
+    Pair(u16),
     // Byte 1 of four.
     Green,
 }
@@ -51,6 +51,13 @@ fn wide(byte: u8) -> u32
     byte as u32
 }
 
+// Two bytes, the low one first. The cut of sixteen bits is vectorised as such.
+fn word(low: u8, high: u8) -> u16
+    ensures { λ r. ⌜ r ≡ low + 256 * high ⌝ }
+{
+    low as u16 + 256 * (high as u16)
+}
+
 // The code in column x of a row of each kind.
 fn byte_at(row: &[u8], x: usize) -> u32
     requires { ⌜ x < length (now row) ⌝ }
@@ -59,12 +66,12 @@ fn byte_at(row: &[u8], x: usize) -> u32
     wide(row[x])
 }
 
-fn pair_at(row: &[u8], x: usize) -> u32
+fn pair_at(row: &[u8], x: usize, full: u16) -> u32
     requires { ⌜ x * 2 + 1 < length (now row) ⌝ }
-    ensures { λ r. ⌜ (r ≡ codeIn Pair (now (row .entry)) x) × (r ≤ 65535) ⌝ }
+    ensures { λ r. ⌜ (r ≡ codeIn (Pair full) (now (row .entry)) x) × (r ≤ 65535) ⌝ }
 {
     let i = x * 2;
-    wide(row[i]) + 256 * wide(row[i + 1])
+    plane::cut(word(row[i], row[i + 1]), full) as u32
 }
 
 fn green_at(row: &[u8], x: usize) -> u32
@@ -89,14 +96,18 @@ fn bytes_bend(up: &[u8], here: &[u8], down: &[u8], width: usize) -> u32
     sum
 }
 
-fn pairs_bend(up: &[u8], here: &[u8], down: &[u8], width: usize) -> u32
-    requires { ⌜ Rows Pair width (now up) (now here) (now down) ⌝ }
-    ensures { λ r. ⌜ r ≡ sumOver width (bendIn Pair (now (up .entry)) (now (here .entry)) (now (down .entry))) ⌝ }
+fn pairs_bend(up: &[u8], here: &[u8], down: &[u8], width: usize, full: u16) -> u32
+    requires { ⌜ Rows (Pair full) width (now up) (now here) (now down) ⌝ }
+    ensures { λ r. ⌜ r ≡ sumOver width (bendIn (Pair full) (now (up .entry)) (now (here .entry)) (now (down .entry))) ⌝ }
 {
     let mut sum: u32 = 0;
     let mut x = 0;
     while x < width {
-        sum += bend(pair_at(up, x), pair_at(here, x), pair_at(down, x));
+        sum += bend(
+            pair_at(up, x, full),
+            pair_at(here, x, full),
+            pair_at(down, x, full),
+        );
         x += 1;
     }
     sum
@@ -121,7 +132,7 @@ fn row_bend(kind: Kind, up: &[u8], here: &[u8], down: &[u8], width: usize) -> u3
 {
     match kind {
         Kind::Byte => bytes_bend(up, here, down, width),
-        Kind::Pair => pairs_bend(up, here, down, width),
+        Kind::Pair(full) => pairs_bend(up, here, down, width, full),
         Kind::Green => greens_bend(up, here, down, width),
     }
 }
@@ -131,7 +142,7 @@ fn size_of(kind: Kind) -> usize
 {
     match kind {
         Kind::Byte => 1,
-        Kind::Pair => 2,
+        Kind::Pair(_) => 2,
         Kind::Green => 4,
     }
 }
@@ -139,7 +150,11 @@ fn size_of(kind: Kind) -> usize
 fn kind_of(depth: u8) -> Kind
     ensures { λ r. ⌜ r ≡ kindOf depth ⌝ }
 {
-    if depth <= 8 { Kind::Byte } else { Kind::Pair }
+    if depth <= 8 {
+        Kind::Byte
+    } else {
+        Kind::Pair(plane::full_code(depth))
+    }
 }
 
 // The row of n bytes that starts at a place of the plane.
@@ -210,7 +225,9 @@ fn rgba_no(width: u16, height: u16, bytes: usize) -> u8
     )
 }
 
-// The comb of a plane of one component a sample, its codes as they stand.
+// The comb of a plane of one component a sample. Its codes are not shifted, and one above the largest of
+// its depth counts as that. The luma of a biplanar frame deeper than 8 bits has its codes in the high
+// bits, where nearly every one counts so: such a frame goes through readback first.
 pub fn comb(plane: &[u8], width: u16, height: u16, depth: u8, stride: u32) -> Combed
     ensures { λ r. ⌜ combedNo r ≡ combNo width height depth stride (length (now (plane .entry))) ⌝ }
     ensures { λ r. ⌜ combedValues r ≡ whenDone (combNo width height depth stride (length (now (plane .entry)))) (planeComb (now (plane .entry)) width height depth stride) ⌝ }

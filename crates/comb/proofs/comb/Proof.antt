@@ -1,11 +1,16 @@
+use native.Mathlib.Omega.{arith}
 use lib.ListN.{length}
 use denote.Ref.{now}
 use borrow.Author.Needs.{needs}
 use Rattle.laws.proofs.Refusal.{gives, refuses}
+use Rattle.plane.specs.Claims.{AllBytes}
 use Rattle.comb.specs.Answer.{combNo}
 use Rattle.comb.proofs.Codes.{plane-narrow, plane-long, plane-total}
 use Rattle.comb.proofs.comb.Statement.{statement}
 use Rattle.comb.proofs.comb.Tie as tie
+
+all-bytes : (c : tie.After-shared-slice-known) → AllBytes (now (c .before .args .plane))
+all-bytes c i = omega (arith, c .shared-slice-known .given i)
 
 comb-no-requires : tie.Need-comb-no-requires
 comb-no-requires c κs = search needs
@@ -27,7 +32,7 @@ returns : tie.Need-returns
 returns c =
     let a = c .before .before .before .before .before .args in
     gives {m = combNo (a .width) (a .height) (a .depth) (a .stride) (length (now (a .plane)))} (c .before .before .before .comb-no .ensures) (c .before .before .if1 .taken)
-    (plane-total (now (a .plane)) (a .width) (a .height) (a .depth) (a .stride) (c .before .kind-of .ensures) (c .rows-bend .ensures))
+    (plane-total (now (a .plane)) (all-bytes (c .before .before .before .before)) (a .width) (a .height) (a .depth) (a .stride) (c .before .kind-of .ensures) (c .rows-bend .ensures))
 
 returns-2 : tie.Need-returns-2
 returns-2 c = refuses _ (c .before .comb-no .ensures) (c .if1 .left)
