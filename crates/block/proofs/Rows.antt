@@ -1,5 +1,5 @@
 -- Laws of rows: where the rows of a picture stand, and what is kept of their samples.
-use Prim.Native.Nat.{ℕ, suc, _+_, _-_, _*_, _/_, _%_, _^_, _≤_, _<_}
+use Prim.Native.Nat.{ℕ, suc, _+_, _-_, _*_, _/_, _%_, _^_, _≤_, _<_, min}
 use mathlib.Core.Path.{_≡_, sym, ap, ap₂, _∙_}
 use mathlib.Core.List.{List}
 use native.Mathlib.Nat.{suc-mul, mul-le-mul-right}
@@ -11,8 +11,9 @@ use Rattle.laws.specs.Rows.{listed}
 use Rattle.laws.proofs.Lists.{length-listed, same-listed, listed-at, part-length, part-at}
 use Rattle.plane.specs.declared.Shape.{Shape}
 use Rattle.plane.specs.declared.Grid.{Grid}
-use Rattle.plane.specs.Plane.{rowBytes, planeBytes, gridShape, codeOf}
+use Rattle.plane.specs.Plane.{rowBytes, planeBytes, gridShape, fullCode, codeOf}
 use Rattle.plane.specs.Claims.{AllBytes}
+use Rattle.plane.proofs.Full.{full-short}
 use Rattle.block.specs.Block.{keptOf}
 use Rattle.block.specs.Rows.{KeptRow, pairKept}
 
@@ -42,7 +43,7 @@ module _ (g : Grid) (h : g .depth ≤ 8) where
   kept-byte bytes x y fits =
       let none : g .depth - 8 ≡ 0 = omega arith in
       let place : y * g .stride + (x * 1 + 0) * 1 ≡ y * g .stride + x = omega arith in
-      rw (le-leb (g .depth) 8 h, none, place) (omega (arith, fits (y * g .stride + x)))
+      rw (le-leb (g .depth) 8 h, none, place, full-short (g .depth) h) (omega (arith, fits (y * g .stride + x)))
 
   -- a row that is lent as a part of the plane is the kept row
   pub byte-row-kept :
@@ -72,8 +73,8 @@ row-listed bytes s y e = record {
 
 -- ---- rows of two bytes a sample
 -- a code that is not shifted
-as-it-stands : (n k : ℕ) → n / 2 ^ 0 / 2 ^ k % 256 ≡ n / 2 ^ k % 256
-as-it-stands n k = ap (λ (m : ℕ). m / 2 ^ k % 256) (omega arith)
+as-it-stands : (n full k : ℕ) → min (n / 2 ^ 0) full / 2 ^ k % 256 ≡ min n full / 2 ^ k % 256
+as-it-stands n full k = ap (λ (m : ℕ). min m full / 2 ^ k % 256) (omega arith)
 
 module _ (g : Grid) (h : 8 < g .depth) where
   pub pair-row-size : rowBytes (gridShape g) ≡ g .width * 2
@@ -82,21 +83,22 @@ module _ (g : Grid) (h : 8 < g .depth) where
   kept-pair :
       (bytes : List ℕ) (x y : ℕ) →
       let start = y * g .stride in
-      keptOf bytes (gridShape g) x y ≡ (getD bytes (start + x * 2) 0 + 256 * getD bytes (start + (x * 2 + 1)) 0) / 2 ^ (g .depth - 8) % 256
+      keptOf bytes (gridShape g) x y
+      ≡ min (getD bytes (start + x * 2) 0 + 256 * getD bytes (start + (x * 2 + 1)) 0) (fullCode (g .depth)) / 2 ^ (g .depth - 8) % 256
   unfolding keptOf codeOf
   kept-pair bytes x y =
       let low : y * g .stride + (x * 1 + 0) * 2 ≡ y * g .stride + x * 2 = omega arith in
       let high : y * g .stride + x * 2 + 1 ≡ y * g .stride + (x * 2 + 1) = omega arith in
-      rw (lt-leb (g .depth) 8 h, low, high) (as-it-stands _ (g .depth - 8))
+      rw (lt-leb (g .depth) 8 h, low, high) (as-it-stands _ (fullCode (g .depth)) (g .depth - 8))
 
   pub pairs-kept :
       (bytes : List ℕ) (y : ℕ) {n : ℕ} {row : List ℕ} →
       row ≡ take (g .width * 2) (drop (y * g .stride) bytes) → n ≡ g .width →
-      listed n (pairKept row (g .depth - 8)) ≡ listed (g .width) (λ x. keptOf bytes (gridShape g) x y)
+      listed n (pairKept row (fullCode (g .depth)) (g .depth - 8)) ≡ listed (g .width) (λ x. keptOf bytes (gridShape g) x y)
   pairs-kept bytes y {n} {row} part e =
-      (λ i. listed (e i) (pairKept (part i) (g .depth - 8)))
+      (λ i. listed (e i) (pairKept (part i) (fullCode (g .depth)) (g .depth - 8)))
       ∙ same-listed (g .width) _ _
       (λ x l.
-      ap₂ (λ (low high : ℕ). (low + 256 * high) / 2 ^ (g .depth - 8) % 256)
+      ap₂ (λ (low high : ℕ). min (low + 256 * high) (fullCode (g .depth)) / 2 ^ (g .depth - 8) % 256)
       (part-at bytes (y * g .stride) (g .width * 2) (x * 2) 0 (omega arith)) (part-at bytes (y * g .stride) (g .width * 2) (x * 2 + 1) 0 (omega arith))
       ∙ sym (kept-pair bytes x y))

@@ -1,5 +1,5 @@
 -- How the private functions read the rows of a picture. No public contract cites this file.
-use Prim.Native.Nat.{ℕ, _+_, _*_, _/_, _%_, _^_, _≤_, _<_}
+use Prim.Native.Nat.{ℕ, _+_, _*_, _/_, _%_, _^_, _≤_, _<_, min}
 use mathlib.Core.Path.{_≡_}
 use mathlib.Core.Bool.{true}
 use mathlib.Core.List.{List}
@@ -25,6 +25,6 @@ pub record KeptRow (row bytes : List ℕ) (s : Shape) (y : ℕ) : Type 0 where
   pub wide : length row ≡ s .width
   pub sample : (x : ℕ) → x < s .width → getD row x 0 ≡ keptOf bytes s x y
 
--- the kept sample in column x of a row that holds two bytes a sample, the low one first
-abbrev pub pairKept : List ℕ → ℕ → ℕ → ℕ
-pairKept row right x = (getD row (x * 2) 0 + 256 * getD row (x * 2 + 1) 0) / 2 ^ right % 256
+-- the kept sample in column x of a row that holds two bytes a sample, the low one first, `full` being the largest code
+abbrev pub pairKept : List ℕ → ℕ → ℕ → ℕ → ℕ
+pairKept row full right x = min (getD row (x * 2) 0 + 256 * getD row (x * 2 + 1) 0) full / 2 ^ right % 256

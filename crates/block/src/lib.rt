@@ -5,7 +5,7 @@
 //
 // Which blocks of a field moved against the frame that a store keeps.
 ghost use mathlib.Core.Path.{_≡_};
-ghost use Prim.Native.Nat.{_+_, _*_, _<_, _≤_, min};
+ghost use Prim.Native.Nat.{_+_, _*_, _/_, _%_, _^_, _<_, _≤_, min};
 ghost use lib.Dec.{ltb};
 ghost use lib.ListN.{length, getD, take, drop};
 ghost use Rattle.laws.specs.Refusal.{written};
@@ -46,6 +46,14 @@ fn wide(byte: u8) -> u16
     byte as u16
 }
 
+// The 8 bits that are kept of a code.
+fn kept(code: u16, right: u16) -> u16
+    requires { ⌜ right ≤ 8 ⌝ }
+    ensures { λ r. ⌜ (r ≡ code / 2 ^ right % 256) × (r < 256) ⌝ }
+{
+    (code >> right) % 256
+}
+
 // A row of one byte a sample, and one of two. The loops run over parts, so that the compiler drops
 // every index test and vectorises them.
 fn keep_bytes(to: &mut [u8], row: &[u8])
@@ -59,15 +67,15 @@ fn keep_bytes(to: &mut [u8], row: &[u8])
     }
 }
 
-fn keep_pairs(to: &mut [u8], row: &[u8], right: u16)
+fn keep_pairs(to: &mut [u8], row: &[u8], full: u16, right: u16)
     requires { ⌜ (length (now row) ≡ length (now to) * 2) × (right ≤ 8) ⌝ }
-    ensures { λ _. ⌜ now (to .exit) ≡ listed (length (now (to .entry))) (pairKept (now (row .entry)) right) ⌝ }
+    ensures { λ _. ⌜ now (to .exit) ≡ listed (length (now (to .entry))) (pairKept (now (row .entry)) full right) ⌝ }
 {
     let mut x = 0;
     while x < to.len() {
         let i = x * 2;
-        let code = wide(row[i]) + 256 * wide(row[i + 1]);
-        to[x] = ((code >> right) % 256) as u8;
+        let word = wide(row[i]) + 256 * wide(row[i + 1]);
+        to[x] = kept(plane::cut(word, full), right) as u8;
         x += 1;
     }
 }
@@ -91,8 +99,9 @@ fn keep_row(to: &mut [u8], plane: &[u8], grid: Grid, y: usize)
     }
     let start = y * (grid.stride as usize);
     let bytes = (grid.width as usize) * 2;
+    let full = plane::full_code(grid.depth);
     let right = grid.depth as u16 - 8;
-    keep_pairs(to, part_at(plane, start, bytes), right);
+    keep_pairs(to, part_at(plane, start, bytes), full, right);
 }
 
 // ---- blocks
@@ -332,8 +341,8 @@ fn keep_no(grid: Grid, bytes: usize, room: usize) -> u8
 // ---- the calls
 
 // The counts of the field of a parity of a picture, against the same parity of the frame of that size
-// which the store keeps. Words are read as they stand: a biplanar luma deeper than 8 bits goes through
-// readback first.
+// which the store keeps. Codes are not shifted, and one above the largest of its depth counts as that: a
+// biplanar luma deeper than 8 bits, whose codes stand in the high bits, goes through readback first.
 pub fn count(plane: &[u8], grid: plane::Grid, store: &[u8], parity: field::Parity) -> Counted
     ensures { λ r. ⌜ countedNo r ≡ countNo (gridShape grid) (length (now (plane .entry))) (length (now (store .entry))) ⌝ }
     ensures { λ r. ⌜ countedValues r ≡ countValues (now (plane .entry)) (gridShape grid) (now (store .entry)) (firstRowOf parity) ⌝ }
@@ -361,7 +370,7 @@ fn keep_rows(store: &mut [u8], plane: &[u8], grid: Grid)
     }
 }
 
-// Keeps a picture, its words read as they stand, as 8 bits at the store's front.
+// Keeps a picture, its codes read as for `count`, as 8 bits at the store's front.
 pub fn keep(store: &mut [u8], plane: &[u8], grid: plane::Grid) -> u8
     ensures { λ r. ⌜ r ≡ keepNo (gridShape grid) (length (now (plane .entry))) (length (now (store .entry))) ⌝ }
     ensures { λ r. ⌜ now (store .exit) ≡ written r (over (keptFrame (now (plane .entry)) (gridShape grid)) (now (store .entry))) (now (store .entry)) ⌝ }

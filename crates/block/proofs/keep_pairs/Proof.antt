@@ -1,5 +1,6 @@
 -- The loop keeps `Filled` of the columns passed.
-use Prim.Native.Nat.{_+_, _-_, _*_, _/_, _%_, _^_}
+use Prim.Native.Nat.{ℕ, _+_, _-_, _*_, _/_, _%_, _^_, min}
+use mathlib.Core.Path.{ap, _∙_}
 use native.Mathlib.Omega.{arith}
 use lib.ListN.{length}
 use borrow.Author.Needs.{needs}
@@ -9,10 +10,10 @@ use Rattle.block.proofs.keep_pairs.Statement.{statement}
 use Rattle.block.proofs.keep_pairs.Tie as tie
 
 abbrev Inv-loop : tie.InvT-loop
-Inv-loop to₀ row right x₀ to x = Filled (pairKept row right) to₀ to x
+Inv-loop to₀ row full right x₀ to x = Filled (pairKept row full right) to₀ to x
 
 abbrev μ-loop : tie.MeasureT-loop
-μ-loop to₀ row right x₀ to x = length to₀ - x
+μ-loop to₀ row full right x₀ to x = length to₀ - x
 
 loop-holds : tie.Need-loop-holds Inv-loop μ-loop
 loop-holds c = fill-starts
@@ -35,14 +36,17 @@ shared-slice-read-wide-2 c = omega arith
 wide-requires-2 : tie.Need-wide-requires-2 Inv-loop μ-loop
 wide-requires-2 c κs = search needs
 
-mul-code : tie.Need-mul-code Inv-loop μ-loop
-mul-code c = omega arith
+mul-word : tie.Need-mul-word Inv-loop μ-loop
+mul-word c = omega arith
 
-add-code : tie.Need-add-code Inv-loop μ-loop
-add-code c = omega arith
+add-word : tie.Need-add-word Inv-loop μ-loop
+add-word c = omega arith
 
-shr-to : tie.Need-shr-to Inv-loop μ-loop
-shr-to c = omega arith
+cut-requires : tie.Need-cut-requires Inv-loop μ-loop
+cut-requires c κs = search needs
+
+kept-requires : tie.Need-kept-requires Inv-loop μ-loop
+kept-requires c κs = search needs
 
 cast-to : tie.Need-cast-to Inv-loop μ-loop
 cast-to c = omega arith
@@ -58,9 +62,13 @@ loop-less c = omega arith
 
 loop-again : tie.Need-loop-again Inv-loop μ-loop
 loop-again c =
-    let a = c .before .before .before .before .before .before .before .before .args in
-    fills (c .before .before .before .before .before .loop .inv) (omega arith)
-    (λ i. (c .before .before .wide .ensures .0 i + 256 * c .wide2 .ensures .0 i) / 2 ^ a .right % 256)
+    let a = c .before .before .before .before .before .before .before .before .before .before .args in
+    let low = c .before .before .before .before .wide .ensures .0 in
+    let high = c .before .before .wide2 .ensures .0 in
+    fills (c .before .before .before .before .before .before .before .loop .inv) (omega arith)
+    (c .kept .ensures .0
+    ∙ ap (λ (code : ℕ). code / 2 ^ a .right % 256) (c .before .cut .ensures .0)
+    ∙ (λ i. min (low i + 256 * high i) (a .full) / 2 ^ a .right % 256))
 
 same-length : tie.Need-same-length Inv-loop μ-loop
 same-length c = search needs
@@ -81,9 +89,10 @@ keep-pairs-spec =
     add-wide
     shared-slice-read-wide-2
     wide-requires-2
-    mul-code
-    add-code
-    shr-to
+    mul-word
+    add-word
+    cut-requires
+    kept-requires
     cast-to
     slice-write-to
     add-x

@@ -1,4 +1,4 @@
-use Prim.Native.Nat.{ℕ, _+_, _*_, _≤_}
+use Prim.Native.Nat.{ℕ, _+_, _-_, _*_, _≤_}
 use mathlib.Core.Path.{sym, ap, _∙_}
 use native.Mathlib.Omega.{arith}
 use lib.ListN.{length}
@@ -6,7 +6,9 @@ use denote.Ref.{now}
 use borrow.Author.Needs.{needs}
 use Rattle.plane.proofs.Bounds.{good-within}
 use Rattle.plane.specs.Plane.{gridShape}
+use Rattle.laws.specs.Rows.{listed}
 use Rattle.laws.proofs.Lists.{part-length}
+use Rattle.block.specs.Rows.{pairKept}
 use Rattle.block.proofs.Rows.{row-within, row-copied, pair-row-size, pairs-kept}
 use Rattle.block.proofs.keep_row.Statement.{statement}
 use Rattle.block.proofs.keep_row.Tie as tie
@@ -54,6 +56,9 @@ cast-bytes c = search needs
 mul-bytes : tie.Need-mul-bytes
 mul-bytes c = search needs
 
+full-code-requires : tie.Need-full-code-requires
+full-code-requires c κs = search needs
+
 cast-right : tie.Need-cast-right
 cast-right c = search needs
 
@@ -61,11 +66,11 @@ sub-right : tie.Need-sub-right
 sub-right c = search needs
 
 part-at-requires : tie.Need-part-at-requires
-part-at-requires c κs = row-ends (c .before .before .before .before)
+part-at-requires c κs = row-ends (c .before .before .before .before .before)
 
 keep-pairs-requires : tie.Need-keep-pairs-requires
 keep-pairs-requires c κs =
-    let test = c .before .before .before .before .before in
+    let test = c .before .before .before .before .before .before in
     let start = test .before .before .before .before in
     let a = start .args in (
       ap length (c .part-at .ensures)
@@ -80,10 +85,11 @@ same-length-2 c = search needs
 returns-2 : tie.Need-returns-2
 returns-2 c =
     let part = c .before .before .before in
-    let test = part .before .before .before .before .before in
+    let test = part .before .before .before .before .before .before in
     let start = test .before .before .before .before in
     let a = start .args in
     c .before .before .keep-pairs .ensures
+    ∙ (λ i. listed (length (now (a .to))) (pairKept (now (part .part-at .result)) (part .before .before .before .full-code .ensures i) (a .grid .depth - 8)))
     ∙ pairs-kept (a .grid) (test .if1 .left) (now (a .plane)) (a .y) (part .part-at .ensures) (start .pre .1)
 
 pub keep-row-spec : {M : Type 1} → statement M
@@ -98,6 +104,7 @@ keep-row-spec =
     mul-start
     cast-bytes
     mul-bytes
+    full-code-requires
     cast-right
     sub-right
     part-at-requires
