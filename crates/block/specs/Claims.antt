@@ -1,11 +1,12 @@
 -- What holds of the definitions here. proofs/Claims.antt proves each under its name in small letters.
-use Prim.Native.Nat.{ℕ, _≤_, _<_}
+use Prim.Native.Nat.{ℕ, _-_, _/_, _^_, _≤_, _<_}
 use mathlib.Core.Path.{_≡_}
 use mathlib.Core.List.{List}
 use Rattle.laws.specs.Refusal.{Says}
 use Rattle.laws.specs.Rows.{over}
 use Rattle.laws.specs.Sums.{apart}
 use Rattle.plane.specs.declared.Shape.{Shape}
+use Rattle.plane.specs.Plane.{wordOf, fullCode, codeOf}
 use Rattle.block.specs.declared.Counted.{Counted}
 use Rattle.block.specs.Block.{keptOf, keptFrame, storedOf, busyOf, busyField}
 use Rattle.block.specs.Answer.{countedNo, countedValues, countTests, keepTests}
@@ -21,6 +22,15 @@ KeepSays = (s : Shape) (bytes room : ℕ) → Says (keepTests s bytes room)
 -- number and values leave no choice: a contract that settles both settles the answer
 abbrev pub OneCounted : Type 0
 OneCounted = (a b : Counted) → countedNo a ≡ countedNo b → countedValues a ≡ countedValues b → a ≡ b
+
+-- a code has no bit above its depth, so that the remainder drops nothing: its upper 8 bits are kept
+abbrev pub KeptIsUpper : Type 0
+KeptIsUpper = (bytes : List ℕ) (s : Shape) (x y : ℕ) → keptOf bytes s x y ≡ codeOf bytes s x y / 2 ^ (s .depth - 8)
+
+-- and of a word above the largest code 255, whatever its bits
+abbrev pub AboveIsKeptFull : Type 0
+AboveIsKeptFull =
+    (bytes : List ℕ) (s : Shape) (x y : ℕ) → 8 ≤ s .depth → s .depth ≤ 16 → fullCode (s .depth) ≤ wordOf bytes s x y → keptOf bytes s x y ≡ 255
 
 -- a sample of a picture, read back from the store that `keep` wrote it to, is what is kept of it
 abbrev pub KeptReadsBack : Type 0

@@ -1,5 +1,5 @@
 -- What the inner functions of `fill` promise: planes that were tested, and a tile of a line.
-use Prim.Native.Nat.{ℕ, _+_, _/_, _^_, _≤_, _<_}
+use Prim.Native.Nat.{ℕ, _+_, _/_, _^_, _≤_, _<_, min}
 use mathlib.Core.Path.{_≡_}
 use mathlib.Core.Bool.{Bool, not, cond}
 use mathlib.Core.List.{List}
@@ -42,9 +42,10 @@ pub record Tiled (s : Shape) (y from count : ℕ) : Type 0 where
   pub few : count ≤ 512
   pub within : from + count ≤ s .width
 
--- the value of the sample stored at a place
-abbrev pub storedValue : List ℕ → ℕ → ℕ → Float → ℕ → Float
-storedValue bytes depth shift full at = div binary32 (ofInt binary32 (pos (storedAt bytes depth at / 2 ^ shift))) full
+-- the value of the sample stored at a place, `full` being the largest code
+abbrev pub storedValue : List ℕ → ℕ → ℕ → ℕ → ℕ → Float
+storedValue bytes depth shift full at =
+    div binary32 (ofInt binary32 (pos (min (storedAt bytes depth at / 2 ^ shift) full))) (ofInt binary32 (pos full))
 
 -- ---- slants
 

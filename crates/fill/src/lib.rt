@@ -49,15 +49,16 @@ fn stored(src: &[u8], depth: u8, i: usize) -> u16
     wide(src[i]) + 256 * wide(src[i + 1])
 }
 
-fn value(src: &[u8], depth: u8, shift: u8, full: f32, i: usize) -> f32
+fn value(src: &[u8], depth: u8, shift: u8, full: u16, i: usize) -> f32
     requires { ⌜ (i + sampleBytes depth ≤ length (now src)) × (shift ≤ 7) ⌝ }
     ensures { λ r. ⌜ r ≡ storedValue (now (src .entry)) depth shift full i ⌝ }
 {
-    ((stored(src, depth, i) >> shift) as f32) / full
+    (plane::cut(stored(src, depth, i) >> shift, full) as f32) / (full as f32)
 }
 
 // Samples from the column `from` on, `step` bytes from one to the next. Each caller gives step and depth
-// as constants, so that what is inlined there is a plain loop over one kind of row.
+// as constants, and for bytes the largest code too, so that what is inlined there is a plain loop over one
+// kind of row, and one over bytes has nothing to cut.
 fn scan(
     dst: &mut [f32],
     src: &[u8],
@@ -66,7 +67,7 @@ fn scan(
     from: usize,
     depth: u8,
     shift: u8,
-    full: f32,
+    full: u16,
 )
     requires { ⌜ (from + length (now dst) ≤ 8192) × (step ≤ 4) × (shift ≤ 7) ⌝ }
     requires { ⌜ ((x : ℕ) → x < length (now dst) → at + step * (from + x) + sampleBytes depth ≤ length (now src)) ⌝ }
@@ -95,19 +96,19 @@ fn samples(dst: &mut [f32], src: &[u8], s: plane::Shape, row: usize, from: usize
     ensures { λ _. ⌜ now (dst .exit) ≡ listed (length (now (dst .entry))) (λ x. valueOf (now (src .entry)) s (pos (from + x)) (pos row)) ⌝ }
 {
     let layout = s.layout;
-    let full = plane::full_value(s.depth);
     let at = start(row, s.stride);
     let component = plane::component_of(layout);
     let shared = plane::components_of(layout);
     if s.depth <= 8 {
         if shared <= 1 {
-            scan(dst, src, at + component, 1, from, 8, 0, full);
+            scan(dst, src, at + component, 1, from, 8, 0, 255);
             return;
         }
-        scan(dst, src, at + component, 2, from, 8, 0, full);
+        scan(dst, src, at + component, 2, from, 8, 0, 255);
         return;
     }
     let shift = plane::shift_of(layout, s.depth);
+    let full = plane::full_code(s.depth);
     if shared <= 1 {
         scan(dst, src, at + 2 * component, 2, from, 16, shift, full);
         return;

@@ -1,28 +1,49 @@
 -- The claims of specs/Claims.antt.
 use mathlib.Core.Path.{_≡_, refl, _∙_}
 use mathlib.Core.Bool.{true}
+use mathlib.Core.List.{List}
 use Prim.Native.Nat.{ℕ, _+_, _*_, _/_, _<_}
 use native.Mathlib.Omega.{arith}
-use lib.IntN.{pos}
+use lib.IntN.{ℤ, pos}
 use lib.ListN.{length, getD}
 use Rattle.laws.specs.Refusal.{rising}
 use Rattle.laws.proofs.Claims.{lowest-says}
 use Rattle.laws.proofs.Lists.{length-laid, laid-at}
+use Rattle.float.specs.Bounds.{Unit}
+use Rattle.float.proofs.Small.{small-more}
+use Rattle.float.proofs.Range.{unit-small}
+use Rattle.plane.specs.declared.Shape.{Shape}
+use Rattle.plane.specs.Plane.{valueOf}
 use Rattle.filter.specs.declared.Quality.{Quality}
 use Rattle.filter.specs.declared.Rows.{Rows}
+use Rattle.filter.specs.Filter.{sampleOf}
+use Rattle.filter.proofs.Claims.{sample-in-unit}
 use Rattle.colour.specs.declared.Conversion.{Conversion}
 use Rattle.colour.specs.Colour.{goodConversion}
 use Rattle.colour.specs.Claims.{InUnit}
 use Rattle.colour.proofs.Claims.{converted-in-unit}
-use Rattle.picture.specs.Picture.{Frame, pictureTests, lumaIn, cbIn, crIn, colourAt, pixelOf, pixelRow, pixelRows}
-use Rattle.picture.specs.Claims.{PictureSays, PictureSize, Opaque, Bytes, PixelsInUnit}
+use Rattle.picture.specs.Picture.{Frame, pictureTests, colourAt, pixelOf, pixelRow, pixelRows}
+use Rattle.picture.specs.Claims.{PictureSays, PictureSize, Opaque, SamplesInUnit, PixelsInUnit}
 use Rattle.picture.proofs.Judged.{good-colours}
 use Rattle.picture.proofs.Painted.{length-pixels}
-use Rattle.picture.proofs.Values.{value-small, sample-small, served-bytes}
 
 pub picture-says : PictureSays
 unfolding rising
 picture-says conversion previous current next room = lowest-says (pictureTests conversion previous current next room) tt
+
+-- the samples of one plane of each frame
+one-plane :
+    (quality : Quality) (rows : Rows) (before cur after : List ℕ) (earlier own later : Shape) (x y : ℤ) →
+    Unit (sampleOf quality rows (valueOf before earlier) (valueOf cur own) (valueOf after later) x y)
+one-plane quality rows before cur after earlier own later =
+    sample-in-unit (record { quality = quality; rows = rows; before = earlier; cur = own; after = later }) before cur after
+
+pub samples-in-unit : SamplesInUnit
+samples-in-unit quality rows before cur after x y = (
+  one-plane quality rows (before .luma) (cur .luma) (after .luma) (before .shapes .luma) (cur .shapes .luma) (after .shapes .luma) x y,
+  one-plane quality rows (before .cb) (cur .cb) (after .cb) (before .shapes .cb) (cur .shapes .cb) (after .shapes .cb) x y,
+  one-plane quality rows (before .cr) (cur .cr) (after .cr) (before .shapes .cr) (cur .shapes .cr) (after .shapes .cr) x y,
+)
 
 module _ (conversion : Conversion) (quality : Quality) (rows : Rows) (before cur after : Frame) where
   length-row : (width y : ℕ) → length (pixelRow conversion quality rows before cur after width y) ≡ width * 4
@@ -49,17 +70,14 @@ module _ (conversion : Conversion) (quality : Quality) (rows : Rows) (before cur
       (length-row (cur .shapes .luma .width)) (cur .shapes .luma .height) (x * 4 + 3) y 0 (omega arith) m
       ∙ alpha-in-row (cur .shapes .luma .width) x y l
 
-  -- a colour of bytes
-  in-unit : goodConversion conversion ≡ true → Bytes before → Bytes cur → Bytes after → (x y : ℕ) → InUnit (colourAt conversion quality rows before cur after x y)
+  -- a colour, of samples from 0 to 1
+  in-unit : goodConversion conversion ≡ true → (x y : ℕ) → InUnit (colourAt conversion quality rows before cur after x y)
   unfolding colourAt
-  in-unit good b c a x y =
-      converted-in-unit conversion _ _ _ good
-      (sample-small rows (lumaIn before) (lumaIn cur) (lumaIn after) (value-small (before .luma) (b .luma) (before .shapes .luma))
-      (value-small (cur .luma) (c .luma) (cur .shapes .luma)) (value-small (after .luma) (a .luma) (after .shapes .luma)) (pos x) (pos y) quality)
-      (sample-small rows (cbIn before) (cbIn cur) (cbIn after) (value-small (before .cb) (b .cb) (before .shapes .cb))
-      (value-small (cur .cb) (c .cb) (cur .shapes .cb)) (value-small (after .cb) (a .cb) (after .shapes .cb)) (pos (x / 2)) (pos (y / 2)) quality)
-      (sample-small rows (crIn before) (crIn cur) (crIn after) (value-small (before .cr) (b .cr) (before .shapes .cr))
-      (value-small (cur .cr) (c .cr) (cur .shapes .cr)) (value-small (after .cr) (a .cr) (after .shapes .cr)) (pos (x / 2)) (pos (y / 2)) quality)
+  in-unit good x y =
+      let luma = samples-in-unit quality rows before cur after (pos x) (pos y) in
+      let chroma = samples-in-unit quality rows before cur after (pos (x / 2)) (pos (y / 2)) in
+      converted-in-unit conversion _ _ _ good (small-more 8 (unit-small (luma .0)) tt) (small-more 8 (unit-small (chroma .1)) tt)
+      (small-more 8 (unit-small (chroma .2)) tt)
 
 pub picture-size : PictureSize
 picture-size quality output conversion previous current next = size _ _ _ _ _ _
@@ -68,6 +86,5 @@ pub opaque : Opaque
 opaque quality output conversion previous current next = alpha _ _ _ _ _ _
 
 pub pixels-in-unit : PixelsInUnit
-pixels-in-unit quality output conversion previous current next room x y p c f done =
-    in-unit _ _ _ _ _ _ (good-colours conversion previous current next room done) (served-bytes (output .before) previous current next p c f) c
-    (served-bytes (output .after) previous current next p c f) x y
+pixels-in-unit quality output conversion previous current next room x y done =
+    in-unit _ _ _ _ _ _ (good-colours conversion previous current next room done) x y

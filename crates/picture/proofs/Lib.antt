@@ -1,7 +1,5 @@
 -- The laws that the proofs of the functions cite, and the claims.
-pub mod Quotients
 pub mod Judged
 pub mod Painted
 pub mod Tiles
-pub mod Values
 pub mod Claims

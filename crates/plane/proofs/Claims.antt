@@ -21,7 +21,7 @@ use Rattle.plane.specs.declared.Layout.{Layout}
 use Rattle.plane.specs.declared.Layout.the-variants.{Planar, Luma, First, Second}
 use Rattle.plane.specs.Plane.{biplanar, storedAt, startOf, shift, wordOf, fullCode, codeOf, valueOf}
 use Rattle.plane.specs.Coordinates.{held, parityOf, biasOf}
-use Rattle.plane.specs.Claims.{AtSays, CodeSays, OneSampled, OneCoded, AllBytes, CodeWithinDepth, ValueInUnit, WordWithinIsCode, WordAboveIsOne, mayExceed, OthersAreWithin, BiasKeeps, BiasIsEven, ParityIsEuclidean}
+use Rattle.plane.specs.Claims.{AtSays, CodeSays, OneSampled, OneCoded, AllBytes, CodeWithinDepth, ValueInUnit, WordWithinIsCode, WordAboveIsFull, WordAboveIsOne, mayExceed, OthersAreWithin, BiasKeeps, BiasIsEven, ParityIsEuclidean}
 use Rattle.plane.proofs.Full.{full-least, full-most, full-short}
 use Rattle.plane.proofs.Places.{no-shift}
 use Rattle.plane.proofs.Coordinates.{unbiased-bias, parity-unbiased}
@@ -69,12 +69,16 @@ pub word-within-is-code : WordWithinIsCode
 unfolding codeOf
 word-within-is-code bytes s x y h = omega arith
 
+pub word-above-is-full : WordAboveIsFull
+unfolding codeOf
+word-above-is-full bytes s x y h = omega arith
+
 pub word-above-is-one : WordAboveIsOne
-unfolding valueOf codeOf
+unfolding valueOf
 word-above-is-one bytes s x y h =
     let full = fullCode (s .depth) in
-    let cut : min (wordOf bytes s (held (s .width) x) (held (s .height) y)) full ≡ full = omega arith in
-    ap (λ (code : ℕ). div binary32 (ofInt binary32 (pos code)) (ofInt binary32 (pos full))) cut
+    ap (λ (code : ℕ). div binary32 (ofInt binary32 (pos code)) (ofInt binary32 (pos full)))
+    (word-above-is-full bytes s (held (s .width) x) (held (s .height) y) h)
     ∙ whole-by-itself full (full-least (s .depth)) (full-most (s .depth))
 
 -- a byte, and two bytes

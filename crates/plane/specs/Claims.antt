@@ -47,7 +47,11 @@ ValueInUnit = (bytes : List ℕ) (s : Shape) (x y : ℤ) → Unit (valueOf bytes
 abbrev pub WordWithinIsCode : Type 0
 WordWithinIsCode = (bytes : List ℕ) (s : Shape) (x y : ℕ) → wordOf bytes s x y ≤ fullCode (s .depth) → codeOf bytes s x y ≡ wordOf bytes s x y
 
--- and one that is reads as 1.
+-- one that is above it counts as the largest,
+abbrev pub WordAboveIsFull : Type 0
+WordAboveIsFull = (bytes : List ℕ) (s : Shape) (x y : ℕ) → fullCode (s .depth) ≤ wordOf bytes s x y → codeOf bytes s x y ≡ fullCode (s .depth)
+
+-- and reads as 1.
 abbrev pub WordAboveIsOne : Type 0
 WordAboveIsOne =
     (bytes : List ℕ) (s : Shape) (x y : ℤ) →

@@ -1,5 +1,5 @@
 -- The claims of specs/Claims.antt.
-use Prim.Native.Nat.{ℕ, _+_, _*_, _/_, _%_, _<_}
+use Prim.Native.Nat.{ℕ, _+_, _*_, _/_, _%_, _<_, min}
 use mathlib.Core.Path.{_≡_, ap, ap₂, _∙_}
 use mathlib.Core.Bool.{Bool, true, false, cond}
 use mathlib.Core.List.{List, [], _∷_}
@@ -13,7 +13,7 @@ use Rattle.laws.proofs.Claims.{lowest-says}
 use Rattle.laws.proofs.Lists.{length-laid, laid-at}
 use Rattle.laws.proofs.Rows.{row-within}
 use Rattle.plane.specs.declared.Shape.{Shape}
-use Rattle.plane.specs.Plane.{sampleBytes, wordOf, codeOf}
+use Rattle.plane.specs.Plane.{sampleBytes, fullCode, wordOf, codeOf}
 use Rattle.readback.specs.Readback.{readbackTests, wordBytes, copiedRow, copiedOf}
 use Rattle.readback.specs.Claims.{ReadbackSays, CopiedSize, CodesKept}
 use Rattle.readback.proofs.Rows.{length-word, length-copied}
@@ -59,6 +59,7 @@ codes-kept bytes old s x y fits deep l h =
     let size = sampleBytes (s .depth) in
     let row = s .width * size in
     let place : (j : ℕ) → y * row + (x * 1 + 0) * size + j ≡ y * row + (x * size + j) = λ j. omega arith in
-    div-one _
+    ap (λ (word : ℕ). min word (fullCode (s .depth)))
+    (div-one _
     ∙ word-read (leb (s .depth) 8) (over (copiedOf bytes s) old) (y * row + (x * 1 + 0) * size) (wordOf bytes s x y)
-    (λ j k. ap (λ (i : ℕ). getD (over (copiedOf bytes s) old) i 0) (place j) ∙ copied-byte bytes old s x y l h j k)
+    (λ j k. ap (λ (i : ℕ). getD (over (copiedOf bytes s) old) i 0) (place j) ∙ copied-byte bytes old s x y l h j k))

@@ -18,16 +18,16 @@ use Rattle.fill.proofs.samples.Tie as tie
 
 -- the call's own values, once the layout is known
 abbrev entry : tie.After-components-of → tie.Start
-entry y = y .before .before .before .before .before .before
+entry y = y .before .before .before .before .before
 
-abbrev Along : tie.After-components-of → ℕ → ℕ → ℕ → ℕ → Type 0
-Along y at step depth slide = Walk (entry y .args .s) (entry y .args .row) at step depth slide
+abbrev Along : tie.After-components-of → ℕ → ℕ → ℕ → ℕ → ℕ → Type 0
+Along y at step depth slide full = Walk (entry y .args .s) (entry y .args .row) at step depth slide full
 
 -- what the loop asks of a walk along the row, and what it gives
 asks :
-    (y : tie.After-components-of) {at step depth slide : ℕ} →
+    (y : tie.After-components-of) {at step depth slide full : ℕ} →
     let a = entry y .args in
-    Along y at step depth slide → step ≤ 4 → slide ≤ 7 →
+    Along y at step depth slide full → step ≤ 4 → slide ≤ 7 →
     ((a .from + length (now (a .dst)) ≤ 8192) × (step ≤ 4) × (slide ≤ 7))
     × ((x : ℕ) → x < length (now (a .dst)) → at + step * (a .from + x) + sampleBytes depth ≤ length (now (a .src)))
 asks y w few small =
@@ -37,17 +37,16 @@ asks y w few small =
     )
 
 gives :
-    (y : tie.After-components-of) {at step depth slide : ℕ} {row : List Float} →
+    (y : tie.After-components-of) {at step depth slide full : ℕ} {row : List Float} →
     let a = entry y .args in
-    let full = y .before .before .before .full-value .result in
     let n = length (now (a .dst)) in
-    Along y at step depth slide → row ≡ listed n (λ x. storedValue (now (a .src)) depth slide full (at + step * (a .from + x))) →
+    Along y at step depth slide full → row ≡ listed n (λ x. storedValue (now (a .src)) depth slide full (at + step * (a .from + x))) →
     row ≡ listed n (λ x. valueOf (now (a .src)) (a .s) (pos (a .from + x)) (pos (a .row)))
 gives y w e =
     let z = entry y in
     e
     ∙ same-listed _ _ _
-    (λ x l. walk-value (now (z .args .src)) (z .pre .0) (z .pre .1 .0) w _ (y .before .before .before .full-value .ensures) (z .args .from + x) (omega (arith, z .pre .1 .1)))
+    (λ x l. walk-value (now (z .args .src)) (z .pre .0) (z .pre .1 .0) w (z .args .from + x) (omega (arith, z .pre .1 .1)))
 
 -- the four walks
 abbrev at : tie.After-components-of → ℕ
@@ -56,32 +55,34 @@ at y = y .before .before .start .result
 abbrev lane : tie.After-components-of → ℕ
 lane y = y .before .component-of .result
 
-bytes-alone : (c : tie.Then2) → let y = c .before .before .before in Along y (at y + lane y) 1 8 0
+bytes-alone : (c : tie.Then2) → let y = c .before .before .before in Along y (at y + lane y) 1 8 0 255
 bytes-alone c =
     let y = c .before .before .before in
     walk-bytes _ _ (y .before .before .start .ensures .0) (y .before .component-of .ensures .0) (c .before .if1 .taken)
     (sym (alone (entry y .args .s .layout) (y .components-of .ensures .0) (c .if2 .taken)))
 
-bytes-shared : (c : tie.Else2) → let y = c .before .before .before in Along y (at y + lane y) 2 8 0
+bytes-shared : (c : tie.Else2) → let y = c .before .before .before in Along y (at y + lane y) 2 8 0 255
 bytes-shared c =
     let y = c .before .before .before in
     walk-bytes _ _ (y .before .before .start .ensures .0) (y .before .component-of .ensures .0) (c .before .if1 .taken)
     (sym (shared (entry y .args .s .layout) (y .components-of .ensures .0) (y .components-of .ensures .1) (c .if2 .left)))
 
-pairs-alone : (c : tie.Then3) → let y = c .before .before .before .before in Along y (at y + 2 * lane y) 2 16 (c .before .shift-of .result)
+pairs-alone :
+    (c : tie.Then3) → let y = c .before .before .before .before .before in
+    Along y (at y + 2 * lane y) 2 16 (c .before .before .shift-of .result) (c .before .full-code .result)
 pairs-alone c =
-    let y = c .before .before .before .before in
-    walk-pairs _ _ (y .before .before .start .ensures .0) (y .before .component-of .ensures .0) (c .before .before .if1 .left)
-    (rw (alone (entry y .args .s .layout) (y .components-of .ensures .0) (c .if3 .taken))) (c .before .shift-of .ensures .0)
+    let y = c .before .before .before .before .before in
+    walk-pairs _ _ (y .before .before .start .ensures .0) (y .before .component-of .ensures .0) (c .before .before .before .if1 .left)
+    (rw (alone (entry y .args .s .layout) (y .components-of .ensures .0) (c .if3 .taken))) (c .before .before .shift-of .ensures .0) (c .before .full-code .ensures)
 
-pairs-shared : (c : tie.Else3) → let y = c .before .before .before .before in Along y (at y + 2 * lane y) 4 16 (c .before .shift-of .result)
+pairs-shared :
+    (c : tie.Else3) → let y = c .before .before .before .before .before in
+    Along y (at y + 2 * lane y) 4 16 (c .before .before .shift-of .result) (c .before .full-code .result)
 pairs-shared c =
-    let y = c .before .before .before .before in
-    walk-pairs _ _ (y .before .before .start .ensures .0) (y .before .component-of .ensures .0) (c .before .before .if1 .left)
-    (rw (shared (entry y .args .s .layout) (y .components-of .ensures .0) (y .components-of .ensures .1) (c .if3 .left))) (c .before .shift-of .ensures .0)
-
-full-value-requires : tie.Need-full-value-requires
-full-value-requires c κs = search needs
+    let y = c .before .before .before .before .before in
+    walk-pairs _ _ (y .before .before .start .ensures .0) (y .before .component-of .ensures .0) (c .before .before .before .if1 .left)
+    (rw (shared (entry y .args .s .layout) (y .components-of .ensures .0) (y .components-of .ensures .1) (c .if3 .left))) (c .before .before .shift-of .ensures .0)
+    (c .before .full-code .ensures)
 
 start-requires : tie.Need-start-requires
 start-requires c κs = search needs
@@ -119,6 +120,9 @@ returns-2 c = gives (c .before .before .before .before .before .before .before) 
 shift-of-requires : tie.Need-shift-of-requires
 shift-of-requires c κs = search needs
 
+full-code-requires : tie.Need-full-code-requires
+full-code-requires c κs = search needs
+
 mul-scan : tie.Need-mul-scan
 mul-scan c = search needs
 
@@ -126,13 +130,13 @@ add-scan-3 : tie.Need-add-scan-3
 add-scan-3 c = search needs
 
 scan-requires-3 : tie.Need-scan-requires-3
-scan-requires-3 c κs = asks (c .before .before .before .before .before) (pairs-alone (c .before)) (lit< tt) (c .before .before .shift-of .ensures .1)
+scan-requires-3 c κs = asks (c .before .before .before .before .before .before) (pairs-alone (c .before)) (lit< tt) (c .before .before .before .shift-of .ensures .1)
 
 same-length-3 : tie.Need-same-length-3
 same-length-3 c = search needs
 
 returns-3 : tie.Need-returns-3
-returns-3 c = gives (c .before .before .before .before .before .before .before .before) (pairs-alone (c .before .before .before .before)) (c .before .before .scan3 .ensures)
+returns-3 c = gives (c .before .before .before .before .before .before .before .before .before) (pairs-alone (c .before .before .before .before)) (c .before .before .scan3 .ensures)
 
 mul-scan-2 : tie.Need-mul-scan-2
 mul-scan-2 c = search needs
@@ -141,19 +145,18 @@ add-scan-4 : tie.Need-add-scan-4
 add-scan-4 c = search needs
 
 scan-requires-4 : tie.Need-scan-requires-4
-scan-requires-4 c κs = asks (c .before .before .before .before .before) (pairs-shared (c .before)) (lit< tt) (c .before .before .shift-of .ensures .1)
+scan-requires-4 c κs = asks (c .before .before .before .before .before .before) (pairs-shared (c .before)) (lit< tt) (c .before .before .before .shift-of .ensures .1)
 
 same-length-4 : tie.Need-same-length-4
 same-length-4 c = search needs
 
 returns-4 : tie.Need-returns-4
-returns-4 c = gives (c .before .before .before .before .before .before .before .before) (pairs-shared (c .before .before .before .before)) (c .before .before .scan4 .ensures)
+returns-4 c = gives (c .before .before .before .before .before .before .before .before .before) (pairs-shared (c .before .before .before .before)) (c .before .before .scan4 .ensures)
 
 pub samples-spec : {M : Type 1} → statement M
 samples-spec =
     tie.close
     (tie.spec
-    full-value-requires
     start-requires
     component-of-requires
     components-of-requires
@@ -166,6 +169,7 @@ samples-spec =
     same-length-2
     returns-2
     shift-of-requires
+    full-code-requires
     mul-scan
     add-scan-3
     scan-requires-3

@@ -5,14 +5,20 @@ use Rattle.fill.proofs.value.Tie as tie
 stored-requires : tie.Need-stored-requires
 stored-requires c κs = search needs
 
-shr-result : tie.Need-shr-result
-shr-result c = search needs
+shr-cut : tie.Need-shr-cut
+shr-cut c = search needs
+
+cut-requires : tie.Need-cut-requires
+cut-requires c κs = search needs
 
 int-to-float-result : tie.Need-int-to-float-result
 int-to-float-result c = search needs
 
+int-to-float-result-2 : tie.Need-int-to-float-result-2
+int-to-float-result-2 c = search needs
+
 returns : tie.Need-returns
-returns c = rw (c .before .stored .ensures)
+returns c = rw (c .before .before .cut .ensures .0, c .before .before .before .stored .ensures)
 
 pub value-spec : {M : Type 1} → statement M
-value-spec = tie.close (tie.spec stored-requires shr-result int-to-float-result returns)
+value-spec = tie.close (tie.spec stored-requires shr-cut cut-requires int-to-float-result int-to-float-result-2 returns)
