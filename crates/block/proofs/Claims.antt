@@ -1,5 +1,5 @@
 -- The claims of specs/Claims.antt.
-use Prim.Native.Nat.{ℕ, _+_, _-_, _*_, _/_, _^_, _≤_, _<_, min, max}
+use Prim.Native.Nat.{ℕ, _+_, _-_, _*_, _/_, _%_, _^_, _≤_, _<_, min, max}
 use mathlib.Core.Path.{_≡_, refl, ap, ap₂, _∙_}
 use mathlib.Core.List.{List}
 use native.Mathlib.Nat.{mod-eq-of-lt, div-eq-of-lt-le}
@@ -13,14 +13,15 @@ use Rattle.laws.specs.Rows.{listed, over}
 use Rattle.laws.specs.Sums.{apart}
 use Rattle.laws.proofs.Claims.{lowest-says}
 use Rattle.laws.proofs.Sums.{same-terms, sum-of-zeros}
-use Rattle.laws.proofs.Lists.{length-listed, listed-at, length-laid, laid-at}
+use Rattle.laws.proofs.Lists.{length-listed, same-listed, listed-at, same-laid, length-laid, laid-at}
+use Rattle.plane.specs.declared.Shape.{Shape}
 use Rattle.plane.specs.Plane.{fullCode, codeOf}
 use Rattle.plane.proofs.Full.{full-least}
 use Rattle.plane.proofs.Claims.{code-within-depth, word-above-is-full}
 use Rattle.block.specs.declared.Counted.the-variants.{Value, Refused}
 use Rattle.block.specs.Block.{keptOf, keptFrame, storedOf, fieldOf, rowsOf, oneIf, differs, columnsIn, rowsIn, differing, busy, blocksAcross, bandsDown, busyOf, busyField}
 use Rattle.block.specs.Answer.{countTests, keepTests}
-use Rattle.block.specs.Claims.{CountSays, KeepSays, OneCounted, KeptIsUpper, AboveIsKeptFull, KeptReadsBack, SamplesSettle, NearIsQuiet, SameFrameIsQuiet, KeptFrameIsQuiet}
+use Rattle.block.specs.Claims.{CountSays, KeepSays, OneCounted, KeptIsUpper, AboveIsKeptFull, CodesSettle, KeptReadsBack, SamplesSettle, NearIsQuiet, SameFrameIsQuiet, KeptFrameIsQuiet}
 use Rattle.block.proofs.Rows.{frame-within}
 
 pub count-says : CountSays
@@ -55,11 +56,11 @@ upper-full depth h =
     div-eq-of-lt-le (2 ^ (depth - 8)) (omega (arith, whole, pow-pos (depth - 8))) (omega (arith, whole, pow-pos (depth - 8)))
 
 pub above-is-kept-full : AboveIsKeptFull
-above-is-kept-full bytes s x y low high above =
-    let held : max 8 (min (s .depth) 16) ≡ s .depth = omega arith in
-    kept-is-upper bytes s x y
-    ∙ ap (λ (code : ℕ). code / 2 ^ (s .depth - 8)) (word-above-is-full bytes s x y above ∙ ap (λ (d : ℕ). 2 ^ d - 1) held)
-    ∙ upper-full (s .depth) low
+above-is-kept-full bytes s x y high above =
+    let held = max 8 (min (s .depth) 16) in
+    let least : 8 ≤ held = omega arith in
+    let right : s .depth - 8 ≡ held - 8 = omega arith in
+    kept-is-upper bytes s x y ∙ (λ i. word-above-is-full bytes s x y above i / 2 ^ right i) ∙ upper-full held least
 
 pub kept-reads-back : KeptReadsBack
 unfolding keptFrame
@@ -103,6 +104,24 @@ module _ (new old : ℕ → ℕ → ℕ) (width rows : ℕ) (near : (x r : ℕ) 
   not-busy : (b k : ℕ) → oneIf (busy new old width rows b k) ≡ 0
   unfolding busy
   not-busy b k = simp (quiet-block b k, le-ltb (columnsIn width b * rowsIn rows k) 0 (omega arith))
+
+-- of one code one sample is kept
+kept-alike :
+    (bytes bytes′ : List ℕ) (s : Shape) → ((x y : ℕ) → x < s .width → y < s .height → codeOf bytes s x y ≡ codeOf bytes′ s x y) →
+    (x y : ℕ) → x < s .width → y < s .height → keptOf bytes s x y ≡ keptOf bytes′ s x y
+unfolding keptOf
+kept-alike bytes bytes′ s same x y l m = ap (λ (code : ℕ). code / 2 ^ (s .depth - 8) % 256) (same x y l m)
+
+pub codes-settle : CodesSettle
+unfolding keptFrame busyField
+codes-settle bytes bytes′ s store parity h same =
+    let alike = kept-alike bytes bytes′ s same in
+    let kept = fieldOf (storedOf store (s .width)) parity in (
+      same-laid (s .height) _ _ (λ y m. same-listed (s .width) _ _ (λ x l. alike x y l m)),
+      samples-settle (fieldOf (keptOf bytes s) parity) kept (fieldOf (keptOf bytes′ s) parity) kept (s .width) (rowsOf (s .height) parity)
+          (λ x r l m. alike x (2 * r + parity) l (omega arith))
+          (λ x r l m. refl),
+    )
 
 pub near-is-quiet : NearIsQuiet
 unfolding busyOf

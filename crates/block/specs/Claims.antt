@@ -27,10 +27,17 @@ OneCounted = (a b : Counted) → countedNo a ≡ countedNo b → countedValues a
 abbrev pub KeptIsUpper : Type 0
 KeptIsUpper = (bytes : List ℕ) (s : Shape) (x y : ℕ) → keptOf bytes s x y ≡ codeOf bytes s x y / 2 ^ (s .depth - 8)
 
--- and of a word above the largest code 255, whatever its bits
+-- and of a word that is not below the largest code, whatever its bits, 255 is kept
 abbrev pub AboveIsKeptFull : Type 0
 AboveIsKeptFull =
-    (bytes : List ℕ) (s : Shape) (x y : ℕ) → 8 ≤ s .depth → s .depth ≤ 16 → fullCode (s .depth) ≤ wordOf bytes s x y → keptOf bytes s x y ≡ 255
+    (bytes : List ℕ) (s : Shape) (x y : ℕ) → s .depth ≤ 16 → fullCode (s .depth) ≤ wordOf bytes s x y → keptOf bytes s x y ≡ 255
+
+-- two pictures of the same codes, whatever their stray bits, are kept alike and counted alike
+abbrev pub CodesSettle : Type 0
+CodesSettle =
+    (bytes bytes′ : List ℕ) (s : Shape) (store : List ℕ) (parity : ℕ) → parity ≤ 1 →
+    ((x y : ℕ) → x < s .width → y < s .height → codeOf bytes s x y ≡ codeOf bytes′ s x y) →
+    (keptFrame bytes s ≡ keptFrame bytes′ s) × (busyField bytes s store parity ≡ busyField bytes′ s store parity)
 
 -- a sample of a picture, read back from the store that `keep` wrote it to, is what is kept of it
 abbrev pub KeptReadsBack : Type 0

@@ -1,9 +1,11 @@
 -- What holds of the definitions here. proofs/Claims.antt proves each under its name in small letters.
-use Prim.Native.Nat.{ℕ, _≤_}
+use Prim.Native.Nat.{ℕ, _-_, _*_, _≤_}
 use mathlib.Core.Path.{_≡_}
+use mathlib.Core.List.{List}
 use Rattle.laws.specs.Refusal.{Says}
+use Rattle.plane.specs.Plane.{fullCode}
 use Rattle.comb.specs.declared.Combed.{Combed}
-use Rattle.comb.specs.Comb.{combOf}
+use Rattle.comb.specs.Comb.{combOf, planeComb}
 use Rattle.comb.specs.Answer.{combedNo, combedValues, combTests, rgbaTests}
 
 -- `comb` gives 4 exactly when the shape is outside the bounds, 6 exactly when only the plane is too short, and 0 exactly when neither
@@ -17,6 +19,10 @@ RgbaSays = (width height bytes : ℕ) → Says (rgbaTests width height bytes)
 -- number and values leave no choice: a contract that settles both settles the answer
 abbrev pub OneCombed : Type 0
 OneCombed = (a b : Combed) → combedNo a ≡ combedNo b → combedValues a ≡ combedValues b → a ≡ b
+
+-- no bend is above twice the largest code, whatever the bytes
+abbrev pub CombWithin : Type 0
+CombWithin = (bytes : List ℕ) (width height depth stride : ℕ) → planeComb bytes width height depth stride ≤ (height - 2) * (width * (2 * fullCode depth))
 
 -- a picture of two rows or fewer has no inner row, and comb 0
 abbrev pub NoInnerRow : Type 0

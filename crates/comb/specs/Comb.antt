@@ -1,5 +1,5 @@
 -- Comb (docs/RULES.md, "Colour and comb"): how far twice a code is from the sum of those above and below it, over all inner rows, of codes
--- as they are stored, and of an RGBA picture of green. It is defined over a code function of column and row, so it holds of a frame that
+-- that are not shifted, and of an RGBA picture of green. It is defined over a code function of column and row, so it holds of a frame that
 -- is nowhere in memory too.
 use Prim.Native.Nat.{ℕ, _+_, _-_, _*_}
 use mathlib.Core.List.{List}

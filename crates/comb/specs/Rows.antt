@@ -1,4 +1,4 @@
--- How the private functions read a row: where in its bytes a column's code stands. No public contract cites this file.
+-- How the private functions read a row: which bytes a column's code is made of. No public contract cites this file.
 use Prim.Native.Nat.{ℕ, _+_, _*_, _≤_, min}
 use mathlib.Core.Path.{_≡_}
 use mathlib.Core.Bool.{cond}
@@ -19,7 +19,7 @@ sizeOf Byte = 1
 sizeOf (Pair full) = 2
 sizeOf Green = 4
 
--- the code in column x of a row
+-- the code in column x of a row: `codeOf` by the row's own bytes, `full` being the largest code
 abbrev pub codeIn : Kind → List ℕ → ℕ → ℕ
 codeIn Byte row x = getD row x 0
 codeIn (Pair full) row x = min (getD row (x * 2) 0 + 256 * getD row (x * 2 + 1) 0) full

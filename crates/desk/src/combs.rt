@@ -5,7 +5,9 @@ ghost use Rattle.laws.specs.Refusal.{written};
 ghost use Rattle.comb.specs.Comb.{planeComb, rgbaComb};
 ghost use Rattle.comb.specs.Answer.{combNo, rgbaNo};
 
-// The comb of a plane whose codes are read as they stand. Numbers 4 and 6.
+// The comb of a plane. Its codes are not shifted, and one above 2^depth - 1 counts as that. The luma of a
+// biplanar frame deeper than 8 bits has its codes in the high bits, where nearly every one counts so: it
+// goes through readback first. Numbers 4 and 6.
 #[no_mangle]
 pub extern "C" fn desk_comb(
     plane: &[u8],

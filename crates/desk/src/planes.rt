@@ -40,7 +40,7 @@ fn code_no(shape: PlaneNumbers, bytes: usize, x: i32, y: i32) -> u8
     )
 }
 
-// The code at a place inside the plane. Numbers 3, 4 and 6.
+// The code at a place inside the plane, at most 2^depth - 1. Numbers 3, 4 and 6.
 #[no_mangle]
 pub extern "C" fn desk_code(plane: &[u8], shape: PlaneNumbers, x: i32, y: i32, code: &mut u16) -> u8
     ensures { λ r. ⌜ r ≡ codeNo shape (length (now (plane .entry))) x y ⌝ }
@@ -54,7 +54,8 @@ pub extern "C" fn desk_code(plane: &[u8], shape: PlaneNumbers, x: i32, y: i32, c
     0
 }
 
-// The value at coordinates from -65,536 to 65,536, each clamped to the plane. Numbers 3, 4 and 6.
+// The value, from 0 to 1, at coordinates from -65,536 to 65,536, each clamped to the plane. Numbers 3, 4
+// and 6.
 #[no_mangle]
 pub extern "C" fn desk_at(plane: &[u8], shape: PlaneNumbers, x: i32, y: i32, value: &mut f32) -> u8
     ensures { λ r. ⌜ r ≡ atNo shape (length (now (plane .entry))) x y ⌝ }

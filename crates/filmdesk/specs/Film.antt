@@ -16,7 +16,7 @@ use Rattle.telecine.specs.declared.Detector.{Detector}
 use Rattle.telecine.specs.Detector.{keptBytes, measuredTests}
 use Rattle.filmdesk.specs.Kept.{stateBytes}
 
--- the shape that the host's numbers give, as they are: codes are read as they stand
+-- the shape that the host's numbers give, as they are: codes are not shifted
 abbrev pub pictureNamed : GridNumbers → Shape
 pictureNamed n = gridShape (gridNamed n)
 

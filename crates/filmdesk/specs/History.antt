@@ -90,7 +90,7 @@ abbrev pub named : Given → Bool
 named (picture parity plane n) = leb parity 1
 named (counts parity present busy total other-busy other-total) = leb parity 1 && leb present 1
 
--- the frame that was given; a picture's words are read as they stand
+-- the frame that was given; a picture's codes are not shifted
 abbrev pub frameOf : Given → calls.Push
 frameOf (picture parity plane n) =
     calls.picture plane (record { width = n .width; height = n .height; depth = n .depth; stride = n .stride; layout = Planar }) (parityGiven parity)

@@ -283,8 +283,9 @@ fn first_no(parity: u8, picture: Grid, given: usize) -> u8
 // ---- the calls
 
 // Busy blocks and all blocks of a field, 0 top or 1 bottom, against the same field of the frame that
-// `store` keeps as 8-bit samples, row by row. The plane's words are read as they stand: a biplanar luma
-// deeper than 8 bits goes through readback first. Numbers 3, 4 and 6.
+// `store` keeps as 8-bit samples, row by row. Codes are not shifted, and one above 2^depth - 1 counts as
+// that: a biplanar luma deeper than 8 bits, whose codes stand in the high bits, goes through readback
+// first. Numbers 3, 4 and 6.
 #[no_mangle]
 pub extern "C" fn desk_busy(
     plane: &[u8],
@@ -428,8 +429,8 @@ pub extern "C" fn desk_detector_push_measured(
 }
 
 // Takes a picture led by the field `parity`, compares it with the frame that the store keeps, and keeps
-// it there. The plane's words are read as they stand: a biplanar luma deeper than 8 bits goes through
-// readback first. Numbers 3, 4, 6, 7 and 9.
+// it there. Codes are not shifted, and one above 2^depth - 1 counts as that: a biplanar luma deeper than
+// 8 bits, whose codes stand in the high bits, goes through readback first. Numbers 3, 4, 6, 7 and 9.
 #[no_mangle]
 pub extern "C" fn desk_detector_push(
     state: &mut [u8],

@@ -22,7 +22,7 @@ pub struct PlaneNumbers {
     pub layout: u32,
 }
 
-// The shape of a plane whose codes are read as they stand: of a picture, or of a field, whose rows are
+// The shape of a plane whose codes are not shifted: of a picture, or of a field, whose rows are
 // its lines. The numbers are wider than a shape's own too.
 #[repr(C)]
 pub struct GridNumbers {

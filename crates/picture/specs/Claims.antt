@@ -31,7 +31,7 @@ Opaque =
     → x < current .shapes .luma .width → y < current .shapes .luma .height
     → getD (pictureOf quality output conversion previous current following) (y * (current .shapes .luma .width * 4) + (x * 4 + 3)) 0 ≡ 255
 
--- What `to_rgb` is given for a pixel lies from 0 to 1, luma and chroma alike, whatever the bytes and the shapes.
+-- What the conversion of `to_rgb` is given for a pixel lies from 0 to 1, luma and chroma alike, whatever the bytes and the shapes.
 abbrev pub SamplesInUnit : Type 0
 SamplesInUnit =
     (quality : Quality) (rows : Rows) (before cur after : Frame) (x y : ℤ)

@@ -5,13 +5,14 @@ use mathlib.Core.Bool.{Bool, true, false, cond, not, _&&_, true≢false}
 use mathlib.Core.List.{List, [], _∷_, nil≢cons, cons≢nil}
 use native.Mathlib.Nat.{mod-lt, div-add-mod', le-trans, le-of-eq, div-one}
 use native.Mathlib.Omega.{arith}
-use borrow.Author.Tests.{lt-ltb, le-leb, leb-true, leb-false, ltb-false}
-use lib.Dec.{leb, ltb, lit<}
+use borrow.Author.Tests.{lt-ltb, le-leb, lt-leb, leb-true, leb-false, ltb-false}
+use lib.Dec.{leb, ltb, lit<, ltb→lt}
 use lib.IntN.{ℤ, pos, negsuc, negℤ, _+ℤ_}
 use lib.ListN.{getD}
 use lib.Ieee.{Float, binary32, div, ofInt}
-use lib.Pow.{shr-lt, le-ones}
+use lib.Pow.{pow-mono, shr-lt, le-ones}
 use Rattle.laws.specs.Refusal.{rising}
+use Rattle.laws.proofs.Bools.{clash, and-left, and-right}
 use Rattle.laws.proofs.Claims.{lowest-says}
 use Rattle.float.proofs.Range.{unit-whole-quotient, whole-by-itself}
 use Rattle.plane.specs.declared.Sampled.the-variants as sampled
@@ -19,9 +20,9 @@ use Rattle.plane.specs.declared.Coded.the-variants as coded
 use Rattle.plane.specs.declared.Shape.{Shape}
 use Rattle.plane.specs.declared.Layout.{Layout}
 use Rattle.plane.specs.declared.Layout.the-variants.{Planar, Luma, First, Second}
-use Rattle.plane.specs.Plane.{biplanar, storedAt, startOf, shift, wordOf, fullCode, codeOf, valueOf}
+use Rattle.plane.specs.Plane.{components, component, sampleBytes, biplanar, storedAt, startOf, shift, wordOf, fullCode, codeOf, valueOf}
 use Rattle.plane.specs.Coordinates.{held, parityOf, biasOf}
-use Rattle.plane.specs.Claims.{AtSays, CodeSays, OneSampled, OneCoded, AllBytes, CodeWithinDepth, ValueInUnit, WordWithinIsCode, WordAboveIsFull, WordAboveIsOne, mayExceed, OthersAreWithin, BiasKeeps, BiasIsEven, ParityIsEuclidean}
+use Rattle.plane.specs.Claims.{AtSays, CodeSays, OneSampled, OneCoded, AllBytes, CodeWithinDepth, ValueInUnit, WordWithinIsCode, WordAboveIsFull, WordAboveIsOne, FullIsLargest, mayExceed, TheseExceed, OthersAreWithin, OneSampleOfTen, BiasKeeps, BiasIsEven, ParityIsEuclidean}
 use Rattle.plane.proofs.Full.{full-least, full-most, full-short}
 use Rattle.plane.proofs.Places.{no-shift}
 use Rattle.plane.proofs.Coordinates.{unbiased-bias, parity-unbiased}
@@ -125,6 +126,39 @@ word-within bytes all s e x y = go (leb 9 (s .depth)) refl
     go true h =
         deep-within (s .layout) (storedAt bytes (s .depth) (startOf s x y)) (s .depth) (pair-fits bytes all (s .depth) (startOf s x y)) h
         (ltb (s .depth) 16) refl (rw (lt-ltb 8 (s .depth) (leb-true 9 (s .depth) h)) at e)
+
+pub full-is-largest : FullIsLargest
+full-is-largest depth low high = ap (λ (d : ℕ). 2 ^ d - 1) (omega arith)
+
+-- the largest code below 16 bits is below two full bytes
+full-below : (depth : ℕ) → ltb 8 depth ≡ true → ltb depth 16 ≡ true → fullCode depth < 65535
+full-below depth low high =
+    let deep = ltb→lt 8 depth (rw low tt) in
+    let short = ltb→lt depth 16 (rw high tt) in
+    let most : max 8 (min depth 16) ≤ 15 = omega arith in
+    omega (arith, pow-mono most)
+
+-- only planar planes are such, and from nine bits on a word has two bytes
+these-of :
+    (layout : Layout) (depth stride : ℕ) → mayExceed layout depth ≡ true →
+    fullCode depth < storedAt (0xFF ∷ 0xFF ∷ []) depth (0 * stride + (0 * components layout + component layout) * sampleBytes depth) / 2 ^ shift layout depth
+these-of Planar depth stride e =
+    let both = and-left (ltb 8 depth && ltb depth 16) true e in
+    let low = and-left (ltb 8 depth) (ltb depth 16) both in
+    let high = and-right (ltb 8 depth) (ltb depth 16) both in
+    let deep : leb depth 8 ≡ false = lt-leb depth 8 (ltb→lt 8 depth (rw low tt)) in
+    let start : 0 * stride + (0 * 1 + 0) * sampleBytes depth ≡ 0 = omega arith in
+    rw (start, deep) (omega (arith, full-below depth low high))
+these-of Luma depth stride e = clash (and-right (ltb 8 depth && ltb depth 16) false e) refl
+these-of First depth stride e = clash (and-right (ltb 8 depth && ltb depth 16) false e) refl
+these-of Second depth stride e = clash (and-right (ltb 8 depth && ltb depth 16) false e) refl
+
+pub these-exceed : TheseExceed
+these-exceed s e = these-of (s .layout) (s .depth) (s .stride) e
+
+pub one-sample-of-ten : OneSampleOfTen
+unfolding codeOf
+one-sample-of-ten = (refl, refl, refl, refl, refl)
 
 pub others-are-within : OthersAreWithin
 others-are-within bytes all s e x y = word-within-is-code bytes s x y (word-within bytes all s e x y)

@@ -1,8 +1,8 @@
 -- What the definitions and contracts of `plane` come to. proofs/Claims.antt proves each claim under its name in small letters.
-use Prim.Native.Nat.{ℕ, _<_, _≤_}
+use Prim.Native.Nat.{ℕ, _-_, _^_, _<_, _≤_}
 use mathlib.Core.Path.{_≡_}
 use mathlib.Core.Bool.{Bool, true, false, not, _&&_}
-use mathlib.Core.List.{List}
+use mathlib.Core.List.{List, [], _∷_}
 use lib.Dec.{ltb}
 use lib.IntN.{ℤ, pos, _+ℤ_, _*ℤ_}
 use lib.ListN.{getD}
@@ -13,7 +13,8 @@ use Rattle.plane.specs.declared.Shape.{Shape}
 use Rattle.plane.specs.declared.Sampled.{Sampled}
 use Rattle.plane.specs.declared.Coded.{Coded}
 use Rattle.plane.specs.declared.Layout.{Layout}
-use Rattle.plane.specs.Plane.{biplanar, wordOf, fullCode, codeOf, valueOf}
+use Rattle.plane.specs.declared.Layout.the-variants.{Luma}
+use Rattle.plane.specs.Plane.{unshifted, biplanar, wordOf, fullCode, codeOf, valueOf}
 use Rattle.plane.specs.Coordinates.{inReach, held, parityOf, biasOf, unbiased}
 use Rattle.plane.specs.Answer.{sampledNo, sampledValues, codedNo, codedValues, codeTests, atTests}
 
@@ -47,7 +48,7 @@ ValueInUnit = (bytes : List ℕ) (s : Shape) (x y : ℤ) → Unit (valueOf bytes
 abbrev pub WordWithinIsCode : Type 0
 WordWithinIsCode = (bytes : List ℕ) (s : Shape) (x y : ℕ) → wordOf bytes s x y ≤ fullCode (s .depth) → codeOf bytes s x y ≡ wordOf bytes s x y
 
--- one that is above it counts as the largest,
+-- one that is not below it counts as the largest,
 abbrev pub WordAboveIsFull : Type 0
 WordAboveIsFull = (bytes : List ℕ) (s : Shape) (x y : ℕ) → fullCode (s .depth) ≤ wordOf bytes s x y → codeOf bytes s x y ≡ fullCode (s .depth)
 
@@ -57,14 +58,32 @@ WordAboveIsOne =
     (bytes : List ℕ) (s : Shape) (x y : ℤ) →
     fullCode (s .depth) ≤ wordOf bytes s (held (s .width) x) (held (s .height) y) → valueOf bytes s x y ≡ oneF
 
--- whether a word of bytes may be above the largest code: a planar one from 9 to 15 bits deep
+-- the largest code of every depth that a plane may have
+abbrev pub FullIsLargest : Type 0
+FullIsLargest = (depth : ℕ) → 8 ≤ depth → depth ≤ 16 → fullCode depth ≡ 2 ^ depth - 1
+
+-- whether a word may be above the largest code, its bytes being bytes: a planar one from 9 to 15 bits deep
 abbrev pub mayExceed : Layout → ℕ → Bool
 mayExceed layout depth = ltb 8 depth && ltb depth 16 && not (biplanar layout)
 
--- Of the other planes every word is a code.
+-- Of such a plane one is, of bytes FF FF;
+abbrev pub TheseExceed : Type 0
+TheseExceed = (s : Shape) → mayExceed (s .layout) (s .depth) ≡ true → fullCode (s .depth) < wordOf (0xFF ∷ 0xFF ∷ []) s 0 0
+
+-- of every other plane each word is a code.
 abbrev pub OthersAreWithin : Type 0
 OthersAreWithin =
     (bytes : List ℕ) → AllBytes bytes → (s : Shape) → mayExceed (s .layout) (s .depth) ≡ false → (x y : ℕ) → codeOf bytes s x y ≡ wordOf bytes s x y
+
+-- One sample of ten bits: planar, bytes FF 07 are a word above full, and count as it; FF 03 are full, and FE 03 one less. The word 8000 of a biplanar luma is the code 512: it is
+-- shifted first, and then not above full.
+abbrev pub OneSampleOfTen : Type 0
+OneSampleOfTen =
+    (wordOf (0xFF ∷ 0x07 ∷ []) (unshifted 1 1 10 2) 0 0 ≡ 2047)
+    × (codeOf (0xFF ∷ 0x07 ∷ []) (unshifted 1 1 10 2) 0 0 ≡ 1023)
+    × (codeOf (0xFF ∷ 0x03 ∷ []) (unshifted 1 1 10 2) 0 0 ≡ 1023)
+    × (codeOf (0xFE ∷ 0x03 ∷ []) (unshifted 1 1 10 2) 0 0 ≡ 1022)
+    × (codeOf (0x00 ∷ 0x80 ∷ []) (record { width = 1; height = 1; depth = 10; stride = 2; layout = Luma }) 0 0 ≡ 512)
 
 -- What the bias means: the held coordinate is the signed one, and a row's parity is that of its held coordinate.
 abbrev pub BiasKeeps : Type 0

@@ -80,7 +80,7 @@ biplanar Second = true
 abbrev pub shift : Layout → ℕ → ℕ
 shift layout depth = cond (biplanar layout && leb 9 depth) (16 - depth) 0
 
--- the number stored at a place, shifted: what readback copies
+-- the number stored at a place, shifted and not cut: what readback copies
 abbrev pub wordOf : List ℕ → Shape → ℕ → ℕ → ℕ
 wordOf bytes s x y = storedAt bytes (s .depth) (startOf s x y) / 2 ^ shift (s .layout) (s .depth)
 
@@ -88,7 +88,7 @@ wordOf bytes s x y = storedAt bytes (s .depth) (startOf s x y) / 2 ^ shift (s .l
 abbrev pub fullCode : ℕ → ℕ
 fullCode depth = 2 ^ max 8 (min depth 16) - 1
 
--- What a code is, in every crate: a number above the largest code of its depth counts as that.
+-- What a code is, in every crate: the shifted number, or the largest code of the plane's depth where that is less.
 unfoldable pub codeOf : List ℕ → Shape → ℕ → ℕ → ℕ
 codeOf bytes s x y = min (wordOf bytes s x y) (fullCode (s .depth))
 

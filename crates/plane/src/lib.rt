@@ -17,7 +17,7 @@ ghost use Rattle.plane.specs.Answer.{readTests, GivesCode, GivesValue};
 
 // Which samples of its bytes a plane gives. Component, shift and samples per row follow from it.
 pub enum Layout {
-    // One component, codes as they stand.
+    // One component, codes in the low bits.
     Planar,
     // The luma plane of a biplanar frame: codes deeper than 8 bits stand in the high bits.
     Luma,
@@ -35,7 +35,7 @@ pub struct Shape {
     pub layout: Layout,
 }
 
-// The shape of a plane whose codes are read as they stand, with nothing beside them.
+// The shape of a plane whose codes are not shifted, with nothing beside them.
 pub struct Grid {
     pub width: u16,
     pub height: u16,

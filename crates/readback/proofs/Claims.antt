@@ -15,7 +15,7 @@ use Rattle.laws.proofs.Rows.{row-within}
 use Rattle.plane.specs.declared.Shape.{Shape}
 use Rattle.plane.specs.Plane.{sampleBytes, fullCode, wordOf, codeOf}
 use Rattle.readback.specs.Readback.{readbackTests, wordBytes, copiedRow, copiedOf}
-use Rattle.readback.specs.Claims.{ReadbackSays, CopiedSize, CodesKept}
+use Rattle.readback.specs.Claims.{ReadbackSays, CopiedSize, WordsKept, CodesKept}
 use Rattle.readback.proofs.Rows.{length-word, length-copied}
 
 pub readback-says : ReadbackSays
@@ -53,13 +53,15 @@ word-read true list start word h = ap (λ (i : ℕ). getD list i 0) (omega arith
 word-read false list start word h =
     ap₂ (λ (low high : ℕ). low + 256 * high) (ap (λ (i : ℕ). getD list i 0) (omega arith) ∙ h 0 (lit< tt)) (h 1 (lit< tt)) ∙ omega arith
 
-pub codes-kept : CodesKept
-unfolding codeOf
-codes-kept bytes old s x y fits deep l h =
+pub words-kept : WordsKept
+words-kept bytes old s x y l h =
     let size = sampleBytes (s .depth) in
     let row = s .width * size in
     let place : (j : ℕ) → y * row + (x * 1 + 0) * size + j ≡ y * row + (x * size + j) = λ j. omega arith in
-    ap (λ (word : ℕ). min word (fullCode (s .depth)))
-    (div-one _
+    div-one _
     ∙ word-read (leb (s .depth) 8) (over (copiedOf bytes s) old) (y * row + (x * 1 + 0) * size) (wordOf bytes s x y)
-    (λ j k. ap (λ (i : ℕ). getD (over (copiedOf bytes s) old) i 0) (place j) ∙ copied-byte bytes old s x y l h j k))
+    (λ j k. ap (λ (i : ℕ). getD (over (copiedOf bytes s) old) i 0) (place j) ∙ copied-byte bytes old s x y l h j k)
+
+pub codes-kept : CodesKept
+unfolding codeOf
+codes-kept bytes old s x y fits deep l h = ap (λ (word : ℕ). min word (fullCode (s .depth))) (words-kept bytes old s x y l h)

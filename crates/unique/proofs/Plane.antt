@@ -21,10 +21,12 @@ use Rattle.plane.proofs.plane_bytes.Kinds as plane-bytes-kinds
 use Rattle.plane.proofs.plane_bytes.Reads as plane-bytes
 use Rattle.plane.proofs.shift_of.Kinds as shift-of-kinds
 use Rattle.plane.proofs.shift_of.Reads as shift-of
+use Rattle.plane.proofs.full_code.Kinds as full-code-kinds
+use Rattle.plane.proofs.full_code.Reads as full-code
+use Rattle.plane.proofs.cut.Kinds as cut-kinds
+use Rattle.plane.proofs.cut.Reads as cut
 use Rattle.plane.proofs.code_at.Kinds as code-at-kinds
 use Rattle.plane.proofs.code_at.Reads as code-at
-use Rattle.plane.proofs.full_value.Kinds as full-value-kinds
-use Rattle.plane.proofs.full_value.Reads as full-value
 use Rattle.plane.proofs.value_at.Kinds as value-at-kinds
 use Rattle.plane.proofs.value_at.Reads as value-at
 use Rattle.plane.proofs.in_reach.Kinds as in-reach-kinds
@@ -80,11 +82,14 @@ plane-bytes-once κs a x y u v p q = (same p q, refl)
 pub shift-of-once : OneAnswer 0 shift-of-kinds.ps shift-of-kinds.r shift-of.Post
 shift-of-once κs a x y u v p q = (same (p .0) (q .0), refl)
 
+pub full-code-once : OneAnswer 0 full-code-kinds.ps full-code-kinds.r full-code.Post
+full-code-once κs a x y u v p q = (same p q, refl)
+
+pub cut-once : OneAnswer 0 cut-kinds.ps cut-kinds.r cut.Post
+cut-once κs a x y u v p q = (same (p .0) (q .0), refl)
+
 pub code-at-once : OneAnswer 1 code-at-kinds.ps code-at-kinds.r code-at.Post
 code-at-once κs a x y u v p q = (same p q, refl)
-
-pub full-value-once : OneAnswer 0 full-value-kinds.ps full-value-kinds.r full-value.Post
-full-value-once κs a x y u v p q = (same p q, refl)
 
 pub value-at-once : OneAnswer 1 value-at-kinds.ps value-at-kinds.r value-at.Post
 value-at-once κs a x y u v p q = (same (p .0) (q .0), refl)

@@ -43,7 +43,7 @@ pub struct PlaneNumbers {
     pub layout: u32,
 }
 
-/// The shape of a plane whose codes are read as they stand: of a picture, or of a field, whose rows are
+/// The shape of a plane whose codes are not shifted: of a picture, or of a field, whose rows are
 /// its lines. The numbers are wider than a shape's own too.
 #[repr(C)]
 #[derive(Debug, Clone, Copy, PartialEq, Eq)]
@@ -248,8 +248,9 @@ pub fn luma(primaries: u8, red: &mut f32, green: &mut f32, blue: &mut f32) -> u8
     }
 }
 
-/// The comb of a plane whose codes are read as they stand. Gives 0; or 4 or 6, and then all that is
-/// lent is as it was.
+/// The comb of a plane. Its codes are not shifted, and one above 2^depth - 1 counts as that. The luma
+/// of a biplanar frame deeper than 8 bits has its codes in the high bits, where nearly every one counts
+/// so: it goes through readback first. Gives 0; or 4 or 6, and then all that is lent is as it was.
 #[inline]
 pub fn comb(plane: &[u8], width: u32, height: u32, depth: u32, stride: u32, total: &mut u64) -> u8 {
     // SAFETY: above.
@@ -320,7 +321,8 @@ pub fn plane(
     }
 }
 
-/// The code at a place inside the plane. Gives 0; or 3, 4 or 6, and then all that is lent is as it was.
+/// The code at a place inside the plane, at most 2^depth - 1. Gives 0; or 3, 4 or 6, and then all that
+/// is lent is as it was.
 #[inline]
 pub fn code(plane: &[u8], shape: PlaneNumbers, x: i32, y: i32, code: &mut u16) -> u8 {
     // SAFETY: above.
@@ -329,8 +331,8 @@ pub fn code(plane: &[u8], shape: PlaneNumbers, x: i32, y: i32, code: &mut u16) -
     }
 }
 
-/// The value at coordinates from -65,536 to 65,536, each clamped to the plane. Gives 0; or 3, 4 or 6,
-/// and then all that is lent is as it was.
+/// The value, from 0 to 1, at coordinates from -65,536 to 65,536, each clamped to the plane. Gives 0;
+/// or 3, 4 or 6, and then all that is lent is as it was.
 #[inline]
 pub fn at(plane: &[u8], shape: PlaneNumbers, x: i32, y: i32, value: &mut f32) -> u8 {
     // SAFETY: above.
@@ -340,9 +342,9 @@ pub fn at(plane: &[u8], shape: PlaneNumbers, x: i32, y: i32, value: &mut f32) ->
 }
 
 /// Busy blocks and all blocks of a field, 0 top or 1 bottom, against the same field of the frame that
-/// `store` keeps as 8-bit samples, row by row. The plane's words are read as they stand: a biplanar
-/// luma deeper than 8 bits goes through readback first. Gives 0; or 3, 4 or 6, and then all that is
-/// lent is as it was.
+/// `store` keeps as 8-bit samples, row by row. Codes are not shifted, and one above 2^depth - 1 counts
+/// as that: a biplanar luma deeper than 8 bits, whose codes stand in the high bits, goes through
+/// readback first. Gives 0; or 3, 4 or 6, and then all that is lent is as it was.
 #[inline]
 pub fn busy(plane: &[u8], grid: GridNumbers, store: &[u8], parity: u8, busy: &mut u64, total: &mut u64) -> u8 {
     // SAFETY: above.
@@ -416,8 +418,9 @@ pub fn detector_push_measured(
 }
 
 /// Takes a picture led by the field `parity`, compares it with the frame that the store keeps, and
-/// keeps it there. The plane's words are read as they stand: a biplanar luma deeper than 8 bits goes
-/// through readback first. Gives 0; or 3, 4, 6, 7 or 9, and then all that is lent is as it was.
+/// keeps it there. Codes are not shifted, and one above 2^depth - 1 counts as that: a biplanar luma
+/// deeper than 8 bits, whose codes stand in the high bits, goes through readback first. Gives 0; or 3,
+/// 4, 6, 7 or 9, and then all that is lent is as it was.
 #[inline]
 pub fn detector_push(
     state: &mut [u8], parity: u8, plane: &[u8], grid: GridNumbers, store: &mut [u8], cadence: &mut u8,
