@@ -2,11 +2,10 @@
 use Prim.Native.Nat.{ℕ, _+_, _-_, _*_, _/_, _%_, _^_, _≤_, _<_, min, max}
 use mathlib.Core.Path.{_≡_, refl, ap, ap₂, _∙_}
 use mathlib.Core.List.{List}
-use native.Mathlib.Nat.{mod-eq-of-lt, div-eq-of-lt-le}
+use native.Mathlib.Nat.{mod-eq-of-lt}
 use native.Mathlib.Omega.{arith}
 use lib.Dec.{ltb}
 use lib.ListN.{length, drop, List·getD-append}
-use lib.Pow.{pow-pos, pow-mono, pow-add, shr-lt}
 use borrow.Author.Tests.{le-ltb}
 use Rattle.laws.specs.Refusal.{rising}
 use Rattle.laws.specs.Rows.{listed, over}
@@ -15,14 +14,13 @@ use Rattle.laws.proofs.Claims.{lowest-says}
 use Rattle.laws.proofs.Sums.{same-terms, sum-of-zeros}
 use Rattle.laws.proofs.Lists.{length-listed, same-listed, listed-at, same-laid, length-laid, laid-at}
 use Rattle.plane.specs.declared.Shape.{Shape}
-use Rattle.plane.specs.Plane.{fullCode, codeOf}
-use Rattle.plane.proofs.Full.{full-least}
+use Rattle.plane.specs.Plane.{codeOf}
 use Rattle.plane.proofs.Claims.{code-within-depth, word-above-is-full}
 use Rattle.block.specs.declared.Counted.the-variants.{Value, Refused}
 use Rattle.block.specs.Block.{keptOf, keptFrame, storedOf, fieldOf, rowsOf, oneIf, differs, columnsIn, rowsIn, differing, busy, blocksAcross, bandsDown, busyOf, busyField}
 use Rattle.block.specs.Answer.{countTests, keepTests}
 use Rattle.block.specs.Claims.{CountSays, KeepSays, OneCounted, KeptIsUpper, AboveIsKeptFull, CodesSettle, KeptReadsBack, SamplesSettle, NearIsQuiet, SameFrameIsQuiet, KeptFrameIsQuiet}
-use Rattle.block.proofs.Rows.{frame-within}
+use Rattle.block.proofs.Rows.{frame-within, upper-fits, upper-full}
 
 pub count-says : CountSays
 unfolding rising
@@ -38,22 +36,9 @@ one-counted (Value counts) (Refused n) numbers values = cc
 one-counted (Refused n) (Value counts) numbers values = cc
 one-counted (Refused n) (Refused m) numbers values = cc
 
--- a code of any depth, shifted down to 8 bits, has no more
-upper-fits : (code depth : ℕ) → code ≤ fullCode depth → code / 2 ^ (depth - 8) < 256
-upper-fits code depth h =
-    let far : max 8 (min depth 16) ≤ 8 + (depth - 8) = omega arith in
-    shr-lt 8 (depth - 8) (omega (arith, pow-mono far, full-least depth))
-
 pub kept-is-upper : KeptIsUpper
 unfolding keptOf
 kept-is-upper bytes s x y = mod-eq-of-lt (upper-fits (codeOf bytes s x y) (s .depth) (code-within-depth bytes s x y))
-
--- the upper 8 bits of the largest code are all set
-upper-full : (depth : ℕ) → 8 ≤ depth → (2 ^ depth - 1) / 2 ^ (depth - 8) ≡ 255
-upper-full depth h =
-    let parts : depth ≡ 8 + (depth - 8) = omega arith in
-    let whole : 2 ^ depth ≡ 256 * 2 ^ (depth - 8) = ap (λ (k : ℕ). 2 ^ k) parts ∙ pow-add 2 8 (depth - 8) in
-    div-eq-of-lt-le (2 ^ (depth - 8)) (omega (arith, whole, pow-pos (depth - 8))) (omega (arith, whole, pow-pos (depth - 8)))
 
 pub above-is-kept-full : AboveIsKeptFull
 above-is-kept-full bytes s x y high above =

@@ -25,6 +25,6 @@ pub record KeptRow (row bytes : List ℕ) (s : Shape) (y : ℕ) : Type 0 where
   pub wide : length row ≡ s .width
   pub sample : (x : ℕ) → x < s .width → getD row x 0 ≡ keptOf bytes s x y
 
--- the kept sample in column x of a row that holds two bytes a sample, the low one first; `full` is the largest code, and `right` the depth less 8
-abbrev pub pairKept : List ℕ → ℕ → ℕ → ℕ → ℕ
-pairKept row full right x = min (getD row (x * 2) 0 + 256 * getD row (x * 2 + 1) 0) full / 2 ^ right % 256
+-- the kept sample in column x of a row that holds two bytes a sample, the low one first; `right` is the depth less 8
+abbrev pub pairKept : List ℕ → ℕ → ℕ → ℕ
+pairKept row right x = min ((getD row (x * 2) 0 + 256 * getD row (x * 2 + 1) 0) / 2 ^ right) 255

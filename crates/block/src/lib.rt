@@ -46,16 +46,22 @@ fn wide(byte: u8) -> u16
     byte as u16
 }
 
-// The 8 bits that are kept of a code.
-fn kept(code: u16, right: u16) -> u16
+fn upper(word: u16, right: u16) -> u16
     requires { ⌜ right ≤ 8 ⌝ }
-    ensures { λ r. ⌜ (r ≡ code / 2 ^ right % 256) × (r < 256) ⌝ }
+    ensures { λ r. ⌜ r ≡ word / 2 ^ right ⌝ }
 {
-    (code >> right) % 256
+    word >> right
+}
+
+fn modulo_256(code: u16) -> u16
+    ensures { λ r. ⌜ (r ≡ code % 256) × (r < 256) ⌝ }
+{
+    code % 256
 }
 
 // A row of one byte a sample, and one of two. The loops run over parts, so that the compiler drops
-// every index test and vectorises them.
+// every index test and vectorises them. A code is cut at 255 behind its shift, which comes to the same as
+// at the largest code before it, and a vector is narrowed so at no cost.
 fn keep_bytes(to: &mut [u8], row: &[u8])
     requires { ⌜ length (now row) ≡ length (now to) ⌝ }
     ensures { λ _. ⌜ now (to .exit) ≡ listed (length (now (to .entry))) (λ x. getD (now (row .entry)) x 0) ⌝ }
@@ -67,15 +73,15 @@ fn keep_bytes(to: &mut [u8], row: &[u8])
     }
 }
 
-fn keep_pairs(to: &mut [u8], row: &[u8], full: u16, right: u16)
+fn keep_pairs(to: &mut [u8], row: &[u8], right: u16)
     requires { ⌜ (length (now row) ≡ length (now to) * 2) × (right ≤ 8) ⌝ }
-    ensures { λ _. ⌜ now (to .exit) ≡ listed (length (now (to .entry))) (pairKept (now (row .entry)) full right) ⌝ }
+    ensures { λ _. ⌜ now (to .exit) ≡ listed (length (now (to .entry))) (pairKept (now (row .entry)) right) ⌝ }
 {
     let mut x = 0;
     while x < to.len() {
         let i = x * 2;
         let word = wide(row[i]) + 256 * wide(row[i + 1]);
-        to[x] = kept(plane::cut(word, full), right) as u8;
+        to[x] = modulo_256(plane::cut(upper(word, right), 255)) as u8;
         x += 1;
     }
 }
@@ -99,9 +105,13 @@ fn keep_row(to: &mut [u8], plane: &[u8], grid: Grid, y: usize)
     }
     let start = y * (grid.stride as usize);
     let bytes = (grid.width as usize) * 2;
-    let full = plane::full_code(grid.depth);
+    let row = part_at(plane, start, bytes);
+    if 16 <= grid.depth {
+        keep_pairs(to, row, 8);
+        return;
+    }
     let right = grid.depth as u16 - 8;
-    keep_pairs(to, part_at(plane, start, bytes), full, right);
+    keep_pairs(to, row, right);
 }
 
 // ---- blocks

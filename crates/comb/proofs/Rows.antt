@@ -10,9 +10,9 @@ use Rattle.laws.specs.Sums.{sumOver, apart}
 use Rattle.laws.proofs.Lists.{part-length}
 use Rattle.laws.proofs.Sums.{same-terms}
 use Rattle.comb.specs.declared.Kind.{Kind}
-use Rattle.comb.specs.declared.Kind.the-variants.{Byte, Pair, Green}
+use Rattle.comb.specs.declared.Kind.the-variants.{Byte, Pair, Cut, Green}
 use Rattle.comb.specs.Comb.{bendOf}
-use Rattle.comb.specs.Rows.{sizeOf, codeIn, bendIn, codesOf, Rows}
+use Rattle.comb.specs.Rows.{sizeOf, codeIn, bendIn, codesOf, lowIn, Rows}
 
 -- a bend of three numbers is that of the codes which they are
 pub same-bend : {a b c up here down r : ℕ} → r ≡ apart (2 * b) (a + c) → a ≡ up → b ≡ here → c ≡ down → r ≡ apart (2 * here) (up + down)
@@ -35,7 +35,9 @@ two-below y height stride h =
 -- in each of its columns it has the code that stands there without the cut
 part-code : (kind : Kind) (bytes : List ℕ) (width x : ℕ) → x < width → codeIn kind (take (width * sizeOf kind) bytes) x ≡ codeIn kind bytes x
 part-code Byte bytes width x h = getD-take (width * 1) bytes x 0 (omega arith)
-part-code (Pair full) bytes width x h =
+part-code Pair bytes width x h =
+    ap₂ (λ (low high : ℕ). low + 256 * high) (getD-take (width * 2) bytes (x * 2) 0 (omega arith)) (getD-take (width * 2) bytes (x * 2 + 1) 0 (omega arith))
+part-code (Cut full) bytes width x h =
     ap₂ (λ (low high : ℕ). min (low + 256 * high) full) (getD-take (width * 2) bytes (x * 2) 0 (omega arith)) (getD-take (width * 2) bytes (x * 2 + 1) 0 (omega arith))
 part-code Green bytes width x h = getD-take (width * 4) bytes (x * 4 + 1) 0 (omega arith)
 
@@ -54,12 +56,13 @@ module _
     (u : up ≡ take n (drop start bytes))
     (h : here ≡ take n (drop (start + stride) bytes))
     (d : down ≡ take n (drop (start + stride + stride) bytes)) where
-  pub lent-rows : width ≤ 8192 → start + stride + stride + n ≤ length bytes → Rows kind width up here down
-  lent-rows w last = record {
+  pub lent-rows : width ≤ 8192 → lowIn kind → start + stride + stride + n ≤ length bytes → Rows kind width up here down
+  lent-rows w low last = record {
     above = ap length u ∙ part-length bytes start n (omega arith) ∙ long;
     inner = ap length h ∙ part-length bytes (start + stride) n (omega arith) ∙ long;
     below = ap length d ∙ part-length bytes (start + stride + stride) n (omega arith) ∙ long;
     narrow = w;
+    low = low;
   }
 
   -- their bends, added up, are those of the plane's codes

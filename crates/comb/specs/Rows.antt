@@ -3,26 +3,28 @@ use Prim.Native.Nat.{ℕ, _+_, _*_, _≤_, min}
 use mathlib.Core.Path.{_≡_}
 use mathlib.Core.Bool.{cond}
 use mathlib.Core.List.{List}
-use lib.Dec.{leb}
+use lib.Dec.{leb, ltb}
 use lib.ListN.{length, getD, drop}
 use Rattle.laws.specs.Sums.{apart}
 use Rattle.plane.specs.Plane.{fullCode}
 use Rattle.comb.specs.declared.Kind.{Kind}
-use Rattle.comb.specs.declared.Kind.the-variants.{Byte, Pair, Green}
+use Rattle.comb.specs.declared.Kind.the-variants.{Byte, Pair, Cut, Green}
 
 abbrev pub kindOf : ℕ → Kind
-kindOf depth = cond (leb depth 8) Byte (Pair (fullCode depth))
+kindOf depth = cond (leb depth 8) Byte (cond (ltb depth 16) (Cut (fullCode depth)) Pair)
 
 -- how many bytes of a row a column has
 abbrev pub sizeOf : Kind → ℕ
 sizeOf Byte = 1
-sizeOf (Pair full) = 2
+sizeOf Pair = 2
+sizeOf (Cut full) = 2
 sizeOf Green = 4
 
 -- the code in column x of a row: `codeOf` by the row's own bytes, `full` being the largest code
 abbrev pub codeIn : Kind → List ℕ → ℕ → ℕ
 codeIn Byte row x = getD row x 0
-codeIn (Pair full) row x = min (getD row (x * 2) 0 + 256 * getD row (x * 2 + 1) 0) full
+codeIn Pair row x = getD row (x * 2) 0 + 256 * getD row (x * 2 + 1) 0
+codeIn (Cut full) row x = min (getD row (x * 2) 0 + 256 * getD row (x * 2 + 1) 0) full
 codeIn Green row x = getD row (x * 4 + 1) 0
 
 -- |2 * here - up - down| in column x of three rows
@@ -33,9 +35,17 @@ bendIn kind up here down x = apart (2 * codeIn kind here x) (codeIn kind up x + 
 abbrev pub codesOf : Kind → List ℕ → ℕ → ℕ → ℕ → ℕ
 codesOf kind bytes stride x y = codeIn kind (drop (y * stride) bytes) x
 
+-- the largest code of a row that is cut leaves room for twice a code in sixteen bits
+abbrev pub lowIn : Kind → Type 0
+lowIn Byte = Unit {0}
+lowIn Pair = Unit {0}
+lowIn (Cut full) = full ≤ 32767
+lowIn Green = Unit {0}
+
 -- three rows of one length, narrow enough that a sum of theirs fits 32 bits: a bend is at most 2 * 65,535, and 8,192 * 131,070 < 2 ^ 32
 pub record Rows (kind : Kind) (width : ℕ) (up here down : List ℕ) : Type 0 where
   pub above : length up ≡ width * sizeOf kind
   pub inner : length here ≡ width * sizeOf kind
   pub below : length down ≡ width * sizeOf kind
   pub narrow : width ≤ 8192
+  pub low : lowIn kind

@@ -11,8 +11,8 @@ ghost use Rattle.laws.specs.Refusal.{whenDone};
 ghost use Rattle.laws.specs.Sums.{sumOver, apart};
 ghost use Rattle.comb.specs.Comb.{combOf, planeComb, rgbaComb};
 ghost use Rattle.comb.specs.Answer.{combedNo, combedValues, combNo, rgbaNo};
-ghost use Rattle.comb.specs.Rows.{kindOf, sizeOf, codeIn, bendIn, codesOf, Rows};
-ghost use Rattle.comb.specs.declared.Kind.the-variants.{Byte, Pair, Green};
+ghost use Rattle.comb.specs.Rows.{kindOf, sizeOf, codeIn, bendIn, codesOf, lowIn, Rows};
+ghost use Rattle.comb.specs.declared.Kind.the-variants.{Byte, Pair, Cut, Green};
 use plane::Layout;
 use plane::Shape;
 
@@ -25,8 +25,10 @@ pub enum Combed {
 enum Kind {
     // One byte.
     Byte,
-    // Two bytes, the low one first, and at most this number.
-    Pair(u16),
+    // Two bytes, the low one first.
+    Pair,
+    // The same, and at most this number.
+    Cut(u16),
     // Byte 1 of four.
     Green,
 }
@@ -45,13 +47,26 @@ fn bend(up: u32, here: u32, down: u32) -> u32
     }
 }
 
+// The same of codes below 2^15, in the sixteen bits that they have: a vector holds twice as many.
+fn low_bend(up: u16, here: u16, down: u16) -> u16
+    requires { ⌜ (up ≤ 32767) × (here ≤ 32767) × (down ≤ 32767) ⌝ }
+    ensures { λ r. ⌜ (r ≡ apart (2 * here) (up + down)) × (r ≤ 65534) ⌝ }
+{
+    let twice = 2 * here;
+    let beside = up + down;
+    if twice < beside {
+        beside - twice
+    } else {
+        twice - beside
+    }
+}
+
 fn wide(byte: u8) -> u32
     ensures { λ r. ⌜ (r ≡ byte) × (r ≤ 255) ⌝ }
 {
     byte as u32
 }
 
-// Two bytes, the low one first. The cut of sixteen bits is vectorised as such.
 fn word(low: u8, high: u8) -> u16
     ensures { λ r. ⌜ r ≡ low + 256 * high ⌝ }
 {
@@ -66,12 +81,20 @@ fn byte_at(row: &[u8], x: usize) -> u32
     wide(row[x])
 }
 
-fn pair_at(row: &[u8], x: usize, full: u16) -> u32
+fn pair_at(row: &[u8], x: usize) -> u32
     requires { ⌜ x * 2 + 1 < length (now row) ⌝ }
-    ensures { λ r. ⌜ (r ≡ codeIn (Pair full) (now (row .entry)) x) × (r ≤ 65535) ⌝ }
+    ensures { λ r. ⌜ (r ≡ codeIn Pair (now (row .entry)) x) × (r ≤ 65535) ⌝ }
 {
     let i = x * 2;
-    plane::cut(word(row[i], row[i + 1]), full) as u32
+    wide(row[i]) + 256 * wide(row[i + 1])
+}
+
+fn cut_at(row: &[u8], x: usize, full: u16) -> u16
+    requires { ⌜ x * 2 + 1 < length (now row) ⌝ }
+    ensures { λ r. ⌜ (r ≡ codeIn (Cut full) (now (row .entry)) x) × (r ≤ full) ⌝ }
+{
+    let i = x * 2;
+    plane::cut(word(row[i], row[i + 1]), full)
 }
 
 fn green_at(row: &[u8], x: usize) -> u32
@@ -96,18 +119,31 @@ fn bytes_bend(up: &[u8], here: &[u8], down: &[u8], width: usize) -> u32
     sum
 }
 
-fn pairs_bend(up: &[u8], here: &[u8], down: &[u8], width: usize, full: u16) -> u32
-    requires { ⌜ Rows (Pair full) width (now up) (now here) (now down) ⌝ }
-    ensures { λ r. ⌜ r ≡ sumOver width (bendIn (Pair full) (now (up .entry)) (now (here .entry)) (now (down .entry))) ⌝ }
+fn pairs_bend(up: &[u8], here: &[u8], down: &[u8], width: usize) -> u32
+    requires { ⌜ Rows Pair width (now up) (now here) (now down) ⌝ }
+    ensures { λ r. ⌜ r ≡ sumOver width (bendIn Pair (now (up .entry)) (now (here .entry)) (now (down .entry))) ⌝ }
 {
     let mut sum: u32 = 0;
     let mut x = 0;
     while x < width {
-        sum += bend(
-            pair_at(up, x, full),
-            pair_at(here, x, full),
-            pair_at(down, x, full),
-        );
+        sum += bend(pair_at(up, x), pair_at(here, x), pair_at(down, x));
+        x += 1;
+    }
+    sum
+}
+
+fn cuts_bend(up: &[u8], here: &[u8], down: &[u8], width: usize, full: u16) -> u32
+    requires { ⌜ Rows (Cut full) width (now up) (now here) (now down) ⌝ }
+    ensures { λ r. ⌜ r ≡ sumOver width (bendIn (Cut full) (now (up .entry)) (now (here .entry)) (now (down .entry))) ⌝ }
+{
+    let mut sum: u32 = 0;
+    let mut x = 0;
+    while x < width {
+        sum += low_bend(
+            cut_at(up, x, full),
+            cut_at(here, x, full),
+            cut_at(down, x, full),
+        ) as u32;
         x += 1;
     }
     sum
@@ -132,7 +168,8 @@ fn row_bend(kind: Kind, up: &[u8], here: &[u8], down: &[u8], width: usize) -> u3
 {
     match kind {
         Kind::Byte => bytes_bend(up, here, down, width),
-        Kind::Pair(full) => pairs_bend(up, here, down, width, full),
+        Kind::Pair => pairs_bend(up, here, down, width),
+        Kind::Cut(full) => cuts_bend(up, here, down, width, full),
         Kind::Green => greens_bend(up, here, down, width),
     }
 }
@@ -142,18 +179,23 @@ fn size_of(kind: Kind) -> usize
 {
     match kind {
         Kind::Byte => 1,
-        Kind::Pair(_) => 2,
+        Kind::Pair => 2,
+        Kind::Cut(_) => 2,
         Kind::Green => 4,
     }
 }
 
+// Of 8 and of 16 bits no code is above the largest, and none is cut.
 fn kind_of(depth: u8) -> Kind
-    ensures { λ r. ⌜ r ≡ kindOf depth ⌝ }
+    ensures { λ r. ⌜ (r ≡ kindOf depth) × lowIn r ⌝ }
 {
     if depth <= 8 {
-        Kind::Byte
+        return Kind::Byte;
+    }
+    if depth < 16 {
+        Kind::Cut(plane::full_code(depth))
     } else {
-        Kind::Pair(plane::full_code(depth))
+        Kind::Pair
     }
 }
 
@@ -167,7 +209,7 @@ fn row_at(plane: &[u8], start: usize, n: usize) -> &[u8]
 
 // The bends of every inner row, added up.
 fn rows_bend(kind: Kind, plane: &[u8], width: usize, height: u16, stride: usize) -> u64
-    requires { ⌜ (width ≤ 8192) × ((height - 1) * stride + width * sizeOf kind ≤ length (now plane)) ⌝ }
+    requires { ⌜ (width ≤ 8192) × ((height - 1) * stride + width * sizeOf kind ≤ length (now plane)) × lowIn kind ⌝ }
     ensures { λ r. ⌜ r ≡ combOf (codesOf kind (now (plane .entry)) stride) width height ⌝ }
 {
     let n = width * size_of(kind);

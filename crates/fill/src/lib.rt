@@ -8,7 +8,7 @@
 // a tile needs is first expanded to floats, with six more columns on each side that hold what the plane's
 // sampler gives there. The loops over a tile then read with neither a clamp nor a test, and are vectorised.
 ghost use mathlib.Core.Path.{_≡_};
-ghost use Prim.Native.Nat.{ℕ, _+_, _*_, _-_, _<_, _≤_, _^_, min};
+ghost use Prim.Native.Nat.{ℕ, _+_, _*_, _-_, _/_, _<_, _≤_, _^_, min};
 ghost use lib.ListN.{length};
 ghost use lib.IntN.{ℤ, pos, natAbs, subℕ, _+ℤ_};
 ghost use lib.Ieee.{binary32, ofInt};
@@ -49,11 +49,18 @@ fn stored(src: &[u8], depth: u8, i: usize) -> u16
     wide(src[i]) + 256 * wide(src[i + 1])
 }
 
+fn shifted(word: u16, right: u8) -> u16
+    requires { ⌜ right ≤ 7 ⌝ }
+    ensures { λ r. ⌜ r ≡ word / 2 ^ right ⌝ }
+{
+    word >> right
+}
+
 fn value(src: &[u8], depth: u8, shift: u8, full: u16, i: usize) -> f32
     requires { ⌜ (i + sampleBytes depth ≤ length (now src)) × (shift ≤ 7) ⌝ }
     ensures { λ r. ⌜ r ≡ storedValue (now (src .entry)) depth shift full i ⌝ }
 {
-    (plane::cut(stored(src, depth, i) >> shift, full) as f32) / (full as f32)
+    (plane::cut(shifted(stored(src, depth, i), shift), full) as f32) / (full as f32)
 }
 
 // Samples from the column `from` on, `step` bytes from one to the next. Each caller gives step and depth

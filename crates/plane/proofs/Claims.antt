@@ -10,7 +10,7 @@ use lib.Dec.{leb, ltb, lit<, ltb→lt}
 use lib.IntN.{ℤ, pos, negsuc, negℤ, _+ℤ_}
 use lib.ListN.{getD}
 use lib.Ieee.{Float, binary32, div, ofInt}
-use lib.Pow.{pow-mono, shr-lt, le-ones}
+use lib.Pow.{shr-lt, le-ones}
 use Rattle.laws.specs.Refusal.{rising}
 use Rattle.laws.proofs.Bools.{clash, and-left, and-right}
 use Rattle.laws.proofs.Claims.{lowest-says}
@@ -23,7 +23,7 @@ use Rattle.plane.specs.declared.Layout.the-variants.{Planar, Luma, First
 use Rattle.plane.specs.Plane.{components, component, sampleBytes, biplanar, storedAt, startOf, shift, wordOf, fullCode, codeOf, valueOf}
 use Rattle.plane.specs.Coordinates.{held, parityOf, biasOf}
 use Rattle.plane.specs.Claims.{AtSays, CodeSays, OneSampled, OneCoded, AllBytes, CodeWithinDepth, ValueInUnit, WordWithinIsCode, WordAboveIsFull, WordAboveIsOne, FullIsLargest, mayExceed, TheseExceed, OthersAreWithin, OneSampleOfTen, BiasKeeps, BiasIsEven, ParityIsEuclidean}
-use Rattle.plane.proofs.Full.{full-least, full-most, full-short}
+use Rattle.plane.proofs.Full.{full-least, full-most, full-short, full-long, full-low}
 use Rattle.plane.proofs.Places.{no-shift}
 use Rattle.plane.proofs.Coordinates.{unbiased-bias, parity-unbiased}
 
@@ -102,9 +102,7 @@ shifted-within pair depth fits h =
     rw k (le-ones d (shr-lt d (16 - d) (subst (λ (n : ℕ). pair < 2 ^ n) e fits)))
 
 long-within : (pair depth : ℕ) → pair < 2 ^ 16 → 16 ≤ depth → pair / 2 ^ 0 ≤ fullCode depth
-long-within pair depth fits h =
-    let d : max 8 (min depth 16) ≡ 16 = omega arith in
-    rw d (omega arith)
+long-within pair depth fits h = omega (arith, full-long depth h)
 
 -- of a plane deeper than 8 bits, by its layout
 deep-within :
@@ -130,14 +128,6 @@ word-within bytes all s e x y = go (leb 9 (s .depth)) refl
 pub full-is-largest : FullIsLargest
 full-is-largest depth low high = ap (λ (d : ℕ). 2 ^ d - 1) (omega arith)
 
--- the largest code below 16 bits is below two full bytes
-full-below : (depth : ℕ) → ltb 8 depth ≡ true → ltb depth 16 ≡ true → fullCode depth < 65535
-full-below depth low high =
-    let deep = ltb→lt 8 depth (rw low tt) in
-    let short = ltb→lt depth 16 (rw high tt) in
-    let most : max 8 (min depth 16) ≤ 15 = omega arith in
-    omega (arith, pow-mono most)
-
 -- only planar planes are such, and from nine bits on a word has two bytes
 these-of :
     (layout : Layout) (depth stride : ℕ) → mayExceed layout depth ≡ true →
@@ -148,7 +138,7 @@ these-of Planar depth stride e =
     let high = and-right (ltb 8 depth) (ltb depth 16) both in
     let deep : leb depth 8 ≡ false = lt-leb depth 8 (ltb→lt 8 depth (rw low tt)) in
     let start : 0 * stride + (0 * 1 + 0) * sampleBytes depth ≡ 0 = omega arith in
-    rw (start, deep) (omega (arith, full-below depth low high))
+    rw (start, deep) (omega (arith, full-low depth (ltb→lt depth 16 (rw high tt))))
 these-of Luma depth stride e = clash (and-right (ltb 8 depth && ltb depth 16) false e) refl
 these-of First depth stride e = clash (and-right (ltb 8 depth && ltb depth 16) false e) refl
 these-of Second depth stride e = clash (and-right (ltb 8 depth && ltb depth 16) false e) refl

@@ -19,3 +19,15 @@ pub full-short : (depth : ℕ) → depth ≤ 8 → fullCode depth ≡ 255
 full-short depth h =
     let d : max 8 (min depth 16) ≡ 8 = omega arith in
     rw d refl
+
+-- and from 16 on 65,535
+pub full-long : (depth : ℕ) → 16 ≤ depth → fullCode depth ≡ 65535
+full-long depth h =
+    let d : max 8 (min depth 16) ≡ 16 = omega arith in
+    rw d refl
+
+-- below 16 bits twice a code fits sixteen
+pub full-low : (depth : ℕ) → depth < 16 → fullCode depth ≤ 32767
+full-low depth h =
+    let most : max 8 (min depth 16) ≤ 15 = omega arith in
+    omega (arith, pow-mono most)

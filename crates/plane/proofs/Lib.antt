@@ -4,3 +4,4 @@ pub mod Coordinates
 pub mod Bounds
 pub mod Places
 pub mod Claims
+pub mod Codes

@@ -266,14 +266,20 @@ pub fn cut(word: u16, full: u16) -> u16
     if word < full { word } else { full }
 }
 
-// A code, of any shape; 0 past the end.
+// A code, of any shape; 0 past the end. A byte is never above the largest code, nor is what the shift
+// leaves of a biplanar word.
 pub fn code_at(plane: &[u8], s: Shape, x: u16, y: u16) -> u16
     ensures { λ r. ⌜ r ≡ codeOf (now (plane .entry)) s x y ⌝ }
 {
     let layout = s.layout;
     let stored = stored_at(plane, s.depth, start_of(s, x, y));
-    let right = shift_of(layout, s.depth);
-    cut(shifted(stored, right), full_code(s.depth))
+    if s.depth <= 8 {
+        return stored;
+    }
+    if is_biplanar(layout) {
+        return shifted(stored, shift_of(layout, s.depth));
+    }
+    cut(stored, full_code(s.depth))
 }
 
 // The coordinate c - 65,544 brought into 0 .. size - 1.

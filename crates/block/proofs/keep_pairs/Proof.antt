@@ -1,6 +1,7 @@
 -- The loop keeps `Filled` of the columns passed.
-use Prim.Native.Nat.{ℕ, _+_, _-_, _*_, _/_, _%_, _^_, min}
+use Prim.Native.Nat.{ℕ, _+_, _-_, _*_, _/_, _^_, min}
 use mathlib.Core.Path.{ap, _∙_}
+use native.Mathlib.Nat.{mod-eq-of-lt}
 use native.Mathlib.Omega.{arith}
 use lib.ListN.{length}
 use borrow.Author.Needs.{needs}
@@ -10,10 +11,10 @@ use Rattle.block.proofs.keep_pairs.Statement.{statement}
 use Rattle.block.proofs.keep_pairs.Tie as tie
 
 abbrev Inv-loop : tie.InvT-loop
-Inv-loop to₀ row full right x₀ to x = Filled (pairKept row full right) to₀ to x
+Inv-loop to₀ row right x₀ to x = Filled (pairKept row right) to₀ to x
 
 abbrev μ-loop : tie.MeasureT-loop
-μ-loop to₀ row full right x₀ to x = length to₀ - x
+μ-loop to₀ row right x₀ to x = length to₀ - x
 
 loop-holds : tie.Need-loop-holds Inv-loop μ-loop
 loop-holds c = fill-starts
@@ -42,11 +43,14 @@ mul-word c = omega arith
 add-word : tie.Need-add-word Inv-loop μ-loop
 add-word c = omega arith
 
+upper-requires : tie.Need-upper-requires Inv-loop μ-loop
+upper-requires c κs = search needs
+
 cut-requires : tie.Need-cut-requires Inv-loop μ-loop
 cut-requires c κs = search needs
 
-kept-requires : tie.Need-kept-requires Inv-loop μ-loop
-kept-requires c κs = search needs
+modulo-256-requires : tie.Need-modulo-256-requires Inv-loop μ-loop
+modulo-256-requires c κs = search needs
 
 cast-to : tie.Need-cast-to Inv-loop μ-loop
 cast-to c = omega arith
@@ -62,13 +66,16 @@ loop-less c = omega arith
 
 loop-again : tie.Need-loop-again Inv-loop μ-loop
 loop-again c =
-    let a = c .before .before .before .before .before .before .before .before .before .before .args in
-    let low = c .before .before .before .before .wide .ensures .0 in
-    let high = c .before .before .wide2 .ensures .0 in
-    fills (c .before .before .before .before .before .before .before .loop .inv) (omega arith)
-    (c .kept .ensures .0
-    ∙ ap (λ (code : ℕ). code / 2 ^ a .right % 256) (c .before .cut .ensures .0)
-    ∙ (λ i. min (low i + 256 * high i) (a .full) / 2 ^ a .right % 256))
+    let word = c .before .before .before in
+    let a = word .before .before .before .before .before .before .before .before .args in
+    let low = word .before .before .wide .ensures .0 in
+    let high = word .wide2 .ensures .0 in
+    fills (word .before .before .before .before .before .loop .inv) (omega arith)
+    (c .modulo-256 .ensures .0
+    ∙ mod-eq-of-lt (omega arith)
+    ∙ c .before .cut .ensures .0
+    ∙ ap (λ (n : ℕ). min n 255) (c .before .before .upper .ensures)
+    ∙ (λ i. min ((low i + 256 * high i) / 2 ^ a .right) 255))
 
 same-length : tie.Need-same-length Inv-loop μ-loop
 same-length c = search needs
@@ -91,8 +98,9 @@ keep-pairs-spec =
     wide-requires-2
     mul-word
     add-word
+    upper-requires
     cut-requires
-    kept-requires
+    modulo-256-requires
     cast-to
     slice-write-to
     add-x

@@ -25,14 +25,15 @@ rows-bend-requires c κs =
     let no = c .before .before .comb-no .ensures in
     let done = c .before .if1 .taken in (
       plane-narrow (a .width) (a .height) (a .depth) (a .stride) bytes no done,
-      plane-long (a .width) (a .height) (a .depth) (a .stride) bytes no done (c .kind-of .ensures),
+      plane-long (a .width) (a .height) (a .depth) (a .stride) bytes no done (c .kind-of .ensures .0),
+      c .kind-of .ensures .1,
     )
 
 returns : tie.Need-returns
 returns c =
     let a = c .before .before .before .before .before .args in
     gives {m = combNo (a .width) (a .height) (a .depth) (a .stride) (length (now (a .plane)))} (c .before .before .before .comb-no .ensures) (c .before .before .if1 .taken)
-    (plane-total (now (a .plane)) (all-bytes (c .before .before .before .before)) (a .width) (a .height) (a .depth) (a .stride) (c .before .kind-of .ensures) (c .rows-bend .ensures))
+    (plane-total (now (a .plane)) (all-bytes (c .before .before .before .before)) (a .width) (a .height) (a .depth) (a .stride) (c .before .kind-of .ensures .0) (c .rows-bend .ensures))
 
 returns-2 : tie.Need-returns-2
 returns-2 c = refuses _ (c .before .comb-no .ensures) (c .if1 .left)

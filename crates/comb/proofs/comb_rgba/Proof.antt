@@ -18,7 +18,7 @@ rows-bend-requires c κs =
     let bytes = length (now (a .rgba)) in
     let no = c .before .rgba-no .ensures in
     let done = c .if1 .taken in
-    (rgba-narrow (a .width) (a .height) bytes no done, rgba-long (a .width) (a .height) bytes no done)
+    (rgba-narrow (a .width) (a .height) bytes no done, rgba-long (a .width) (a .height) bytes no done, tt)
 
 returns : tie.Need-returns
 returns c =

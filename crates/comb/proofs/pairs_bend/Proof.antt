@@ -10,10 +10,10 @@ use Rattle.comb.proofs.pairs_bend.Statement.{statement}
 use Rattle.comb.proofs.pairs_bend.Tie as tie
 
 abbrev Inv-loop : tie.InvT-loop
-Inv-loop up here down width full sum₀ x₀ sum x = Summed 131070 (bendIn (Pair full) up here down) width sum x
+Inv-loop up here down width sum₀ x₀ sum x = Summed 131070 (bendIn Pair up here down) width sum x
 
 abbrev μ-loop : tie.MeasureT-loop
-μ-loop up here down width full sum₀ x₀ sum x = width - x
+μ-loop up here down width sum₀ x₀ sum x = width - x
 
 loop-holds : tie.Need-loop-holds Inv-loop μ-loop
 loop-holds c = starts _ _ _

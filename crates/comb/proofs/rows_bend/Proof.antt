@@ -68,7 +68,7 @@ row-bend-requires c κs =
     let a = start .args in
     lent-rows (a .kind) (now (a .plane)) (a .width) (a .stride) (turn .before .loop .y)
     (row-size (turn .before .before)) (turn .before .loop .inv .1)
-    (c .before .before .row-at .ensures) (c .before .row-at2 .ensures) (c .row-at3 .ensures) (start .pre .0) (within turn)
+    (c .before .before .row-at .ensures) (c .before .row-at2 .ensures) (c .row-at3 .ensures) (start .pre .0) (start .pre .2) (within turn)
 
 cast-total : tie.Need-cast-total Inv-loop μ-loop
 cast-total c = omega arith

@@ -5,8 +5,8 @@ use Rattle.fill.proofs.value.Tie as tie
 stored-requires : tie.Need-stored-requires
 stored-requires c κs = search needs
 
-shr-cut : tie.Need-shr-cut
-shr-cut c = search needs
+shifted-requires : tie.Need-shifted-requires
+shifted-requires c κs = search needs
 
 cut-requires : tie.Need-cut-requires
 cut-requires c κs = search needs
@@ -18,7 +18,7 @@ int-to-float-result-2 : tie.Need-int-to-float-result-2
 int-to-float-result-2 c = search needs
 
 returns : tie.Need-returns
-returns c = rw (c .before .before .cut .ensures .0, c .before .before .before .stored .ensures)
+returns c = rw (c .before .before .cut .ensures .0, c .before .before .before .shifted .ensures, c .before .before .before .before .stored .ensures)
 
 pub value-spec : {M : Type 1} → statement M
-value-spec = tie.close (tie.spec stored-requires shr-cut cut-requires int-to-float-result int-to-float-result-2 returns)
+value-spec = tie.close (tie.spec stored-requires shifted-requires cut-requires int-to-float-result int-to-float-result-2 returns)
