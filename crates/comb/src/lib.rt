@@ -52,12 +52,12 @@ fn low_bend(up: u16, here: u16, down: u16) -> u16
     requires { ⌜ (up ≤ 32767) × (here ≤ 32767) × (down ≤ 32767) ⌝ }
     ensures { λ r. ⌜ (r ≡ apart (2 * here) (up + down)) × (r ≤ 65534) ⌝ }
 {
-    let twice = 2 * here;
-    let beside = up + down;
-    if twice < beside {
-        beside - twice
+    let doubled = 2 * here;
+    let around = up + down;
+    if doubled < around {
+        around - doubled
     } else {
-        twice - beside
+        doubled - around
     }
 }
 
