@@ -237,10 +237,13 @@ impl fmt::Display for Size {
 const FULL: Size = Size::new(1920, 1080);
 const STANDARD: Size = Size::new(720, 486);
 
-/// How the samples of a plane lie: 8 bits, or the luma of a biplanar frame of
-/// 10 bits.
+/// How the samples of a plane lie: 8 bits, the luma of a biplanar frame of 10
+/// bits; and planar, 10 bits, of which a code is cut where it is past the largest,
+/// and 16 bits, of which none is.
 const PLAIN: (u32, u32) = (8, 0);
 const SHIFTED: (u32, u32) = (10, 1);
+const CUT: (u32, u32) = (10, 0);
+const DEEPEST: (u32, u32) = (16, 0);
 
 fn contests() -> Vec<Contest> {
     let at = Size::new(320, 240);
@@ -253,27 +256,25 @@ fn contests() -> Vec<Contest> {
         planes::comb(FULL, 16),
         planes::comb_rgba(FULL),
     ];
-    for samples in [PLAIN, SHIFTED] {
-        all.push(values::code(at, at.pixels(), samples));
-    }
-    for samples in [PLAIN, SHIFTED] {
-        all.push(values::at(at, at.pixels(), samples));
-    }
-    for samples in [PLAIN, SHIFTED] {
-        all.push(values::edge(sample, sample.pixels(), samples));
-    }
-    for samples in [PLAIN, SHIFTED] {
-        all.push(values::sample(sample, sample.pixels(), samples));
-    }
+    let each = [PLAIN, SHIFTED, CUT, DEEPEST];
+    all.extend(each.map(|samples| values::code(at, at.pixels(), samples)));
+    all.extend(each.map(|samples| values::at(at, at.pixels(), samples)));
+    all.extend(each.map(|samples| values::edge(sample, sample.pixels(), samples)));
+    all.extend(each.map(|samples| values::sample(sample, sample.pixels(), samples)));
     all.extend([
         planes::whole(FULL, bob, (8, 0)),
         planes::whole(FULL, bob, (8, 1)),
         planes::whole(FULL, bob, (10, 0)),
         planes::whole(FULL, bob, (10, 1)),
+        planes::whole(FULL, bob, DEEPEST),
         planes::whole(FULL, yadif, PLAIN),
         planes::whole(FULL, yadif, SHIFTED),
+        planes::whole(FULL, yadif, CUT),
+        planes::whole(FULL, yadif, DEEPEST),
         planes::whole(FULL, bwdif, PLAIN),
         planes::whole(FULL, bwdif, SHIFTED),
+        planes::whole(FULL, bwdif, CUT),
+        planes::whole(FULL, bwdif, DEEPEST),
         values::to_rgb(100_000),
         values::quantise(1_000_000),
         values::luma(100_000),
@@ -281,12 +282,16 @@ fn contests() -> Vec<Contest> {
     for quality in 0..4 {
         all.push(pictures::picture(FULL, quality, 8, false));
         all.push(pictures::picture(FULL, quality, 10, true));
+        all.push(pictures::picture(FULL, quality, 10, false));
+        all.push(pictures::picture(FULL, quality, 16, false));
     }
     all.extend([
         films::busy(FULL, 8),
         films::busy(FULL, 10),
+        films::busy(FULL, 16),
         films::push(FULL, 8),
         films::push(FULL, 10),
+        films::push(FULL, 16),
         films::fresh(100_000),
         films::reset(100_000),
         films::locked(1_000, 100_000),
@@ -394,12 +399,22 @@ fn shop() -> Vec<Contest> {
     [STANDARD, FULL].into_iter().flat_map(of).collect()
 }
 
-/// A plane of noise without padding, and its shape by numbers.
+/// A plane of noise without padding, and its shape by numbers. It has no stray
+/// bits, so that a code is the same for both sides.
 fn plane_of(seed: u64, size: Size, (depth, layout): (u32, u32)) -> (Plane, PlaneNumbers) {
     let Size { width, height } = size;
     let stride = if depth > 8 { 2 * width } else { width };
+    let mut bytes = Random::new(seed).bytes((stride * height) as usize);
+    if let 9..16 = depth {
+        let up = if layout > 0 { 16 - depth } else { 0 };
+        for word in bytes.chunks_exact_mut(2) {
+            let noise = u16::from_le_bytes([word[0], word[1]]);
+            let code = noise >> (16 - depth);
+            word.copy_from_slice(&(code << up).to_le_bytes());
+        }
+    }
     let plane = Plane {
-        data: Random::new(seed).bytes((stride * height) as usize),
+        data: bytes,
         stride: stride as usize,
         width: width as usize,
         height: height as usize,
@@ -553,7 +568,8 @@ mod tests {
 
     use desk::calls::CALLS;
 
-    use super::{Contest, contests, growth};
+    use super::{Contest, Size, contests, growth, plane_of};
+    use differ::stray::Strays;
 
     fn exports() -> Vec<&'static str> {
         let mut found: Vec<_> = CALLS.iter().map(|call| call.name).collect();
@@ -577,5 +593,33 @@ mod tests {
         let grown = timed(growth());
         assert!(grown.keys().eq(&exports), "{grown:?}");
         assert!(grown.values().all(|sizes| *sizes == 4), "{grown:?}");
+    }
+
+    #[test]
+    fn calls_that_read_codes_are_timed_at_three_depths() {
+        let all = contests();
+        for run in differ::runs::RUNS.iter().filter(|run| run.reads) {
+            // Of the detector's calls this one is given pictures.
+            let call = match run.calls {
+                [call] => call,
+                _ => "detector_push",
+            };
+            for depth in [" 8 bits", " 10 bits", " 16 bits"] {
+                let mut inputs = all.iter().filter(|contest| contest.call == call);
+                let timed = inputs.any(|contest| contest.input.contains(depth));
+                assert!(timed, "{call} at{depth}");
+            }
+        }
+    }
+
+    #[test]
+    fn what_is_timed_has_no_stray_bits() {
+        for depth in 8..=16 {
+            for layout in 0..2 {
+                let (plane, shape) = plane_of(1, Size::new(64, 48), (depth, layout));
+                let Strays { samples, stray, .. } = Strays::of_plane(&plane.data, shape);
+                assert_eq!((samples, stray), (64 * 48, 0), "{shape:?}");
+            }
+        }
     }
 }

@@ -21,7 +21,8 @@ struct Frame {
 impl Frame {
     fn new(seed: u64, size: Size, depth: u32, biplanar: bool) -> Self {
         let Size { width, height } = size;
-        let own = |seed, width, height| plane_of(seed, Size { width, height }, (depth, 0));
+        let layout = u32::from(biplanar);
+        let own = |seed, width, height| plane_of(seed, Size { width, height }, (depth, layout));
         let (luma, shape) = own(seed, width, height);
         if !biplanar {
             let (cb, half) = own(seed + 10, width / 2, height / 2);
@@ -45,7 +46,7 @@ impl Frame {
         Self {
             planes: vec![luma, shared],
             shapes: FrameNumbers {
-                luma: PlaneNumbers { layout: 1, ..shape },
+                luma: shape,
                 cb: half(2),
                 cr: half(3),
             },

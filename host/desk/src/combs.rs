@@ -3,7 +3,10 @@
 use crate::{Lines, Refusal, calls};
 
 /// How much rows differ from the rows beside them: the sum of |2 * here - up - down| over all rows
-/// that have one above and one below, of codes as they stand. Refused with 4 and with 6.
+/// that have one above and one below. Codes are not shifted, and one above 2^depth - 1 counts as
+/// that: so the luma of a biplanar frame deeper than 8 bits, whose codes stand in the high bits,
+/// would count as full nearly everywhere, and goes through [`readback`](crate::readback) first.
+/// Refused with 4 and with 6.
 pub fn comb(lines: Lines<'_>) -> Result<u64, Refusal> {
     let Lines {
         bytes,
@@ -56,6 +59,19 @@ mod tests {
         assert_eq!(refused(comb(short)), Err(6));
         assert_eq!(refused(comb_rgba(&rgba, 0, 3)), Err(4));
         assert_eq!(refused(comb_rgba(&rgba[1..], 1, 3)), Err(6));
+    }
+
+    /// Of ten bits FF 07 counts as 1,023, and so does the largest word.
+    #[test]
+    fn codes_past_the_largest_count_as_it() {
+        let of = |words: [u16; 3]| {
+            let bytes = words.map(u16::to_le_bytes).concat();
+            comb(Lines::packed(&bytes, 1, 3, 10))
+        };
+        assert_eq!(of([0x07FF, 0, 0x07FF]), Ok(2046));
+        assert_eq!(of([0, 0x07FF, 0]), Ok(2046));
+        assert_eq!(of([0x0400, 0x03FF, 0xFFFF]), Ok(0));
+        assert_eq!(of([0x0400, 0x03FE, 0x0400]), Ok(2));
     }
 
     #[test]

@@ -53,7 +53,10 @@ impl Detector {
     }
 
     /// Takes the luma of a frame led by `first`, compares it with the one before and keeps it.
-    /// Refused with 4, with 6, and with 9 after 4,000,000,000 frames.
+    /// Codes are not shifted, and one above 2^depth - 1 counts as that: so the luma of a biplanar
+    /// frame deeper than 8 bits, whose codes stand in the high bits, would count as full nearly
+    /// everywhere, and goes through [`readback`](crate::readback) first. Refused with 4, with 6,
+    /// and with 9 after 4,000,000,000 frames.
     pub fn push(&mut self, first: Parity, picture: Lines<'_>) -> Result<Cadence, Refusal> {
         let had = self.store.len();
         self.store.resize(had.max(picture.samples()), 0);
@@ -174,6 +177,26 @@ mod tests {
             }
         }
         assert_eq!(detector.into_store().len(), 64 * 16);
+    }
+
+    /// Of ten bits; the words of a full field have other stray bits in each frame, also where
+    /// it repeats one.
+    #[test]
+    fn stray_bits_move_nothing() {
+        let mut detector = Detector::new();
+        let mut full = [true; 2];
+        for (at, entry) in REEL.into_iter().enumerate() {
+            let moved = entry.unwrap_or([0, 0]);
+            full = [0, 1].map(|field| full[field] ^ (moved[field] > 0));
+            let strays = [0x03FF, 0x0400, 0x07FF, 0x0C00, 0xFFFF];
+            let word = |sample: usize| match full[sample / 64 % 2] {
+                true => strays[(sample + at) % strays.len()],
+                false => (sample + at) as u16 & 3,
+            };
+            let bytes: Vec<u8> = (0..64 * 16).flat_map(|at| word(at).to_le_bytes()).collect();
+            let found = detector.push(Top, Lines::packed(&bytes, 64, 16, 10));
+            assert_eq!(found, Ok(ANSWERS[at]), "entry {at}");
+        }
     }
 
     /// No call trusts what it is lent: numbers that no history reaches are read

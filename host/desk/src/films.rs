@@ -49,7 +49,10 @@ pub struct KeptFrame {
 }
 
 impl KeptFrame {
-    /// Of a frame's luma. Refused with 4 and with 6.
+    /// Of a frame's luma: of each code the highest eight bits. Codes are not shifted before, and
+    /// one above 2^depth - 1 counts as that: so the luma of a biplanar frame deeper than 8 bits,
+    /// whose codes stand in the high bits, would be kept as 255 nearly everywhere, and goes through
+    /// [`readback`](crate::readback) first. Refused with 4 and with 6.
     pub fn of(picture: Lines<'_>) -> Result<Self, Refusal> {
         // No call has this alone. A push keeps exactly this frame in the store that it is lent,
         // and a fresh detector has nothing else there; which field leads plays no part.
@@ -68,9 +71,12 @@ impl KeptFrame {
     }
 }
 
-/// The blocks of a field that differ from the same field of the frame before, and all blocks.
-/// Refused with 4, with 6, and with 5 where the frames differ in width or height: [`calls::busy`]
-/// knows no size of the kept frame, and would compare samples of other places.
+/// The blocks of a field that differ from the same field of the frame before, and all blocks. Codes
+/// are not shifted, and one above 2^depth - 1 counts as that: so the luma of a biplanar frame deeper
+/// than 8 bits, whose codes stand in the high bits, would count as full nearly everywhere, and goes
+/// through [`readback`](crate::readback) first. Refused with 4, with 6, and with 5 where the frames
+/// differ in width or height: [`calls::busy`] knows no size of the kept frame, and would compare
+/// samples of other places.
 pub fn busy_blocks(picture: Lines<'_>, kept: &KeptFrame, field: Parity) -> Result<Counts, Refusal> {
     let alike = (picture.width, picture.height) == (kept.width, kept.height);
     // A frame of another size is lent as if it were empty, so that no sample is compared: the call
@@ -325,7 +331,8 @@ pub(crate) mod tests {
             ..Lines::packed(words.as_flattened(), 2, 2, 10)
         };
         let kept = KeptFrame::of(padded).expect("a good shape");
-        assert_eq!(kept.samples(), [1, 255, 2, 0]);
+        // The last is above 1,023, and counts as that.
+        assert_eq!(kept.samples(), [1, 255, 2, 255]);
         let refused = |picture| KeptFrame::of(picture).map_err(Refusal::number);
         let narrow = Lines {
             stride: 3,
@@ -341,17 +348,24 @@ pub(crate) mod tests {
         assert_eq!(refused(vast), Err(4));
     }
 
-    /// As the original reads it, and as docs/RULES.md says: ten bits go right by
-    /// two, whatever a biplanar frame would have its luma do first.
+    /// Of ten bits a word is cut at 1,023, and then goes right by two. A biplanar
+    /// luma's 0C00 would be 0030, kept as 12; as it stands it is full.
     #[test]
-    fn words_are_read_as_they_stand() {
-        let kept = KeptFrame::of(Lines::packed(&[0], 1, 1, 8)).expect("a good shape");
-        let of = |word: u16| {
+    fn a_code_past_the_largest_is_kept_as_255() {
+        let ten = |word: u16| {
             let word = word.to_le_bytes();
-            let counts = busy_blocks(Lines::packed(&word, 1, 1, 10), &kept, Top);
-            let counts = counts.expect("all within");
-            (counts.busy, counts.total)
+            let kept = KeptFrame::of(Lines::packed(&word, 1, 1, 10)).expect("a good shape");
+            let busy = |then: u8| {
+                let then = KeptFrame::of(Lines::packed(&[then], 1, 1, 8)).expect("a good shape");
+                let counts = busy_blocks(Lines::packed(&word, 1, 1, 10), &then, Top);
+                counts.expect("all within").busy
+            };
+            (kept.samples()[0], [0, 246, 247].map(busy))
         };
-        assert_eq!((of(0x0C00), of(0x0030)), ((0, 1), (1, 1)));
+        for full in [0x07FF, 0x03FF, 0x0400, 0x0C00, 0xFFFF] {
+            assert_eq!(ten(full), (255, [1, 1, 0]), "{full:04x}");
+        }
+        assert_eq!(ten(0x0030), (12, [1, 1, 1]));
+        assert_eq!(ten(0x0023), (8, [0, 1, 1]));
     }
 }

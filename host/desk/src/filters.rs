@@ -177,6 +177,31 @@ mod tests {
         assert_eq!(refused([vast; 3]), Err(4));
     }
 
+    /// Words of ten bits, some of them past 1,023, and the codes that they count as.
+    #[test]
+    fn stray_bits_make_no_other_value() {
+        let bytes = |words: [u16; 15]| words.map(u16::to_le_bytes).concat();
+        let word = |at: u16| [300 * at, 0x0400, 0xFFFF - at, 70 * at][usize::from(at % 4)];
+        let words: [u16; 15] = std::array::from_fn(|at| word(at as u16));
+        let (stray, cut) = (bytes(words), bytes(words.map(|word| word.min(1023))));
+        assert_ne!(stray, cut);
+        let planes = |bytes| [Plane::packed(bytes, 5, 3, 10); 3];
+        for quality in [Quality::Weave, Quality::Bob, Quality::Yadif, Quality::Bwdif] {
+            let of = |bytes| fill_plane(quality, Top, planes(bytes)).expect("all agree");
+            assert_eq!(of(&stray), of(&cut), "{quality:?}");
+            let rows = Rows {
+                first: Bottom,
+                mate: None,
+            };
+            for x in 0..5 {
+                let of = |bytes| sample(quality, planes(bytes), rows, x, 0);
+                assert_eq!(of(&stray), of(&cut), "{quality:?}, {x}");
+                let of = |bytes| slant(planes(bytes)[0], x, 1);
+                assert_eq!(of(&stray), of(&cut), "{x}");
+            }
+        }
+    }
+
     #[test]
     fn a_whole_plane_is_made_row_by_row() {
         let plane = |bytes| Plane::packed(bytes, 2, 3, 8);

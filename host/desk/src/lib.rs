@@ -41,8 +41,10 @@
 //! | measure comb | [`comb`], [`comb_rgba`] | Colour and comb |
 //! | change colours | [`rgb`], [`quantise`], [`luma_weights`] | Colour and comb |
 //!
-//! Planes are lent as a [`Plane`], which has a [`Layout`], or as [`Lines`], which are read as they
-//! stand; three of them are a [`Frame`] or a [`Field`].
+//! Planes are lent as a [`Plane`], which has a [`Layout`], or as [`Lines`], whose codes are not
+//! shifted; three of them are a [`Frame`] or a [`Field`]. Where a code is read, one above the largest
+//! of its depth, 2^depth - 1, counts as that: a capture card may leave stray bits. Weaving and reading
+//! back copy bits.
 //!
 //! # Refusals
 //!

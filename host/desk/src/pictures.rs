@@ -208,6 +208,37 @@ mod tests {
         assert_ne!((rgba[0], rgba[1]), (rgba[1], rgba[2]));
     }
 
+    /// Of ten bits: above planar codes, which are the largest then, and below
+    /// biplanar ones.
+    #[test]
+    fn stray_bits_make_no_other_picture() {
+        let words = |words: &[u16]| -> Vec<u8> {
+            let bytes = words.iter().copied().flat_map(u16::to_le_bytes);
+            bytes.collect()
+        };
+        fn of(frame: Frame<'_>) -> Vec<u8> {
+            let made = picture(Quality::Bob, Output::field(Top), GREY, [frame; 3]);
+            made.expect("all agree")
+        }
+        let planar = |luma: [u16; 3]| {
+            let (luma, grey) = (words(&luma), words(&[512; 2]));
+            of(Frame::planar([&luma, &grey, &grey], 1, 3, 10))
+        };
+        // Bob's row is half of those above and below it.
+        let clean = planar([1023, 100, 0]);
+        assert_eq!(greys(&clean), [255, 128, 0]);
+        for stray in [0x07FF, 0x0400, 0xFFFF] {
+            assert_eq!(planar([stray, 0x8064, 0]), clean, "{stray:04x}");
+        }
+        let biplanar = |luma: [u16; 3]| {
+            let (luma, grey) = (words(&luma), words(&[512 << 6; 4]));
+            of(Frame::biplanar([&luma, &grey], 1, 3, 10))
+        };
+        for stray in [0xFFC0, 0xFFC1, 0xFFFF] {
+            assert_eq!(biplanar([stray, 100 << 6, 0x003F]), clean, "{stray:04x}");
+        }
+    }
+
     #[test]
     fn bad_frames_are_refused() {
         let bytes = [1, 2, 3];

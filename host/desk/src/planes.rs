@@ -3,13 +3,15 @@
 use crate::calls::{GridNumbers, PlaneNumbers};
 use crate::{Refusal, calls};
 
-/// How a component lies in the bytes of its plane. The numbers are the desk's.
+/// How a component lies in the bytes of its plane. The numbers are the desk's. Wherever a code is
+/// read, one above the largest of its depth, 2^depth - 1, counts as that.
 #[derive(Debug, Clone, Copy, PartialEq, Eq)]
 pub enum Layout {
-    /// Alone, its codes as they stand.
+    /// Alone, its codes not shifted: bits above them, which a capture card may leave, make a code
+    /// that counts as the largest.
     Planar = 0,
     /// The luma of a biplanar frame: alone, and a code deeper than 8 bits stands in the high bits
-    /// of its two bytes.
+    /// of its two bytes. Bits below it are dropped.
     BiplanarLuma = 1,
     /// The first of two that share a plane sample by sample, as cb does in a biplanar frame.
     /// Codes stand as in `BiplanarLuma`.
@@ -63,9 +65,10 @@ impl<'a> Plane<'a> {
     }
 }
 
-/// Rows of samples that are lent. They have no layout, since the calls that take them read codes
-/// as they stand: the luma of a biplanar frame deeper than 8 bits goes through
-/// [`readback`](crate::readback) first, and so do chroma components that share a plane.
+/// Rows of samples that are lent. They have no layout, since the calls that take them do not shift
+/// codes: the luma of a biplanar frame deeper than 8 bits goes through
+/// [`readback`](crate::readback) first, and so do chroma components that share a plane. Where codes
+/// are read, one above 2^depth - 1 counts as that; weaving copies every bit.
 #[derive(Debug, Clone, Copy, PartialEq, Eq)]
 pub struct Lines<'a> {
     /// As many as (height - 1) times stride and one row, or more.
@@ -130,8 +133,8 @@ pub(crate) fn row_bytes(width: u32, depth: u32) -> u32 {
     width.saturating_mul(sample_bytes(depth))
 }
 
-/// The code at a place inside the plane, after the layout's shift. Refused with 3 outside the
-/// plane, with 4 and with 6.
+/// The code at a place inside the plane, after the layout's shift; one above the largest of its
+/// depth, 2^depth - 1, counts as that. Refused with 3 outside the plane, with 4 and with 6.
 pub fn code(plane: Plane<'_>, x: i32, y: i32) -> Result<u16, Refusal> {
     let mut code = 0;
     let number = calls::code(plane.bytes, plane.numbers(), x, y, &mut code);
@@ -139,9 +142,9 @@ pub fn code(plane: Plane<'_>, x: i32, y: i32) -> Result<u16, Refusal> {
     Ok(code)
 }
 
-/// The code at a place, divided by the largest of its depth. A place outside the plane is the
-/// nearest inside. Refused with 3 where a coordinate is not within -65,536 to 65,536, with 4 and
-/// with 6.
+/// The [`code`] at a place, divided by the largest of its depth: 0 to 1. A place outside the plane
+/// is the nearest inside. Refused with 3 where a coordinate is not within -65,536 to 65,536, with 4
+/// and with 6.
 pub fn value(plane: Plane<'_>, x: i32, y: i32) -> Result<f32, Refusal> {
     let mut value = 0.0;
     let number = calls::at(plane.bytes, plane.numbers(), x, y, &mut value);
@@ -176,6 +179,31 @@ mod tests {
         };
         assert_eq!(refused(short, 0), Err(6));
         assert_eq!(value(planar, 0, 65_537).map_err(Refusal::number), Err(3));
+    }
+
+    /// The largest code of ten bits is 1,023; FF 07 is 2,047.
+    #[test]
+    fn a_code_past_the_largest_counts_as_it() {
+        let of = |word: u16| {
+            let bytes = word.to_le_bytes();
+            let plane = Plane::packed(&bytes, 1, 1, 10);
+            let code = code(plane, 0, 0).expect("inside");
+            (code, value(plane, 0, 0).expect("inside"))
+        };
+        assert_eq!(of(0x07FF), (1023, 1.0));
+        assert_eq!(of(0x03FE), (1022, 1022.0 / 1023.0));
+        for word in [0x03FF, 0x0400, 0x0401, 0xFFFF] {
+            assert_eq!(of(word), (1023, 1.0), "{word:04x}");
+        }
+        // Below the code of a biplanar luma they are dropped.
+        let luma = Plane {
+            layout: Layout::BiplanarLuma,
+            ..Plane::packed(&[0xBF, 0xFF], 1, 1, 10)
+        };
+        assert_eq!(code(luma, 0, 0), Ok(1022));
+        // All bits of 16 are the code's.
+        let deep = Plane::packed(&[0xFE, 0xFF], 1, 1, 16);
+        assert_eq!(code(deep, 0, 0), Ok(0xFFFE));
     }
 
     #[test]

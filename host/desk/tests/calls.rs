@@ -27,14 +27,14 @@ const CHANGES: [(&str, &str, &str, &str); 12] = [
     ),
     (
         "crates/desk/src/combs.rt",
-        "as they stand. Numbers 4 and 6.",
-        "as they stand.",
+        " Numbers 4 and 6.\n#[no_mangle]\npub extern \"C\" fn desk_comb(",
+        "\n#[no_mangle]\npub extern \"C\" fn desk_comb(",
         "the comment of desk_comb does not end with its refusals",
     ),
     (
         "crates/desk/src/combs.rt",
-        "as they stand. Numbers 4 and 6.",
-        "as they stand. Numbers 4, 5 and 6.",
+        " Numbers 4 and 6.\n#[no_mangle]\npub extern \"C\" fn desk_comb(",
+        " Numbers 4, 5 and 6.\n#[no_mangle]\npub extern \"C\" fn desk_comb(",
         "host/desk/src/calls.rs is not what the exports make of it",
     ),
     (

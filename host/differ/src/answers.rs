@@ -19,6 +19,7 @@ use desk::calls::{CALLS, Call};
 
 use crate::random::{Random, SEED};
 use crate::runs::RUNS;
+use crate::stray::Strays;
 
 /// A call of the table.
 pub fn call(name: &str) -> &'static Call {
@@ -58,6 +59,8 @@ pub struct Answer {
     pub gives: u8,
     numbers: Vec<u64>,
     slices: Vec<Vec<u8>>,
+    /// The samples that the call reads where it gets 0; no part of the record.
+    pub strays: Strays,
 }
 
 impl Answer {
@@ -67,6 +70,7 @@ impl Answer {
             gives: 0,
             numbers: Vec::new(),
             slices: Vec::new(),
+            strays: Strays::default(),
         }
     }
 
@@ -145,6 +149,10 @@ impl Answer {
         let bytes = floats.flat_map(|float| u64::from(float.to_bits()).to_le_bytes());
         self.slices.push(bytes.collect());
         self
+    }
+
+    pub fn reads(self, strays: Strays) -> Self {
+        Self { strays, ..self }
     }
 
     /// The bytes of the record.
@@ -244,42 +252,65 @@ pub fn bytes(list: &[Answer]) -> Vec<u8> {
 }
 
 /// How many answers of each call the list has, and how many get 0.
-#[derive(Debug, Clone, PartialEq, Eq)]
-pub struct Counts(BTreeMap<&'static str, BTreeMap<u8, usize>>);
+#[derive(Debug, Clone, Default, PartialEq, Eq)]
+pub struct Counts {
+    gave: BTreeMap<&'static str, BTreeMap<u8, usize>>,
+    kinds: BTreeMap<&'static str, Kinds>,
+}
+
+/// Of the answers of a call that reads codes and gets 0: how many read a sample
+/// with stray bits, how many one that is cut, and how many only others.
+#[derive(Debug, Clone, Copy, Default, PartialEq, Eq)]
+pub struct Kinds {
+    pub stray: usize,
+    pub cut: usize,
+    pub clean: usize,
+}
 
 impl Counts {
     pub fn of(list: &[Answer]) -> Self {
-        let mut counts: BTreeMap<&str, BTreeMap<u8, usize>> = BTreeMap::new();
+        let mut counts = Self::default();
         for answer in list {
-            let gave = counts.entry(answer.call).or_default();
+            let gave = counts.gave.entry(answer.call).or_default();
             *gave.entry(answer.gives).or_default() += 1;
+            let strays = answer.strays;
+            if answer.gives == 0 && strays.samples > 0 {
+                let kinds = counts.kinds.entry(answer.call).or_default();
+                kinds.stray += usize::from(strays.stray > 0);
+                kinds.cut += usize::from(strays.cut > 0);
+                kinds.clean += usize::from(strays.stray == 0);
+            }
         }
-        Self(counts)
+        counts
     }
 
     /// Answers of a call that are given this number.
     pub fn gave(&self, call: &str, number: u8) -> usize {
-        let gave = self.0.get(call).and_then(|gave| gave.get(&number));
+        let gave = self.gave.get(call).and_then(|gave| gave.get(&number));
         gave.copied().unwrap_or(0)
     }
 
     /// All answers of a call.
     pub fn of_call(&self, call: &str) -> usize {
-        self.0.get(call).map_or(0, |gave| gave.values().sum())
+        self.gave.get(call).map_or(0, |gave| gave.values().sum())
+    }
+
+    pub fn kinds(&self, call: &str) -> Kinds {
+        self.kinds.get(call).copied().unwrap_or_default()
     }
 
     pub fn all(&self) -> usize {
-        self.0.values().flat_map(BTreeMap::values).sum()
+        self.gave.values().flat_map(BTreeMap::values).sum()
     }
 
     pub fn accepted(&self) -> usize {
-        self.0.keys().map(|name| self.gave(name, 0)).sum()
+        self.gave.keys().map(|name| self.gave(name, 0)).sum()
     }
 }
 
 impl fmt::Display for Counts {
     fn fmt(&self, f: &mut fmt::Formatter<'_>) -> fmt::Result {
-        for (name, gave) in &self.0 {
+        for (name, gave) in &self.gave {
             let all = self.of_call(name);
             let refused: Vec<_> = gave
                 .iter()
@@ -290,6 +321,9 @@ impl fmt::Display for Counts {
             write!(f, "{name}: {all}, {accepted} accepted")?;
             if !refused.is_empty() {
                 write!(f, " ({})", refused.join(", "))?;
+            }
+            if let Some(Kinds { stray, cut, .. }) = self.kinds.get(name) {
+                write!(f, ", {stray} with stray bits, {cut} of them cut")?;
             }
             writeln!(f)?;
         }

@@ -6,6 +6,8 @@ use std::collections::{BTreeMap, BTreeSet};
 use std::fmt;
 use std::panic::{self, AssertUnwindSafe};
 
+use crate::stray::Strays;
+
 /// One input. It holds all that its comparison depends on, so that printing it
 /// is enough to repeat it: large inputs as a layout and a seed.
 pub trait Case: Clone + fmt::Debug {
@@ -27,6 +29,12 @@ pub trait Case: Clone + fmt::Debug {
     /// `compare` gave. One whose inputs have numbers of their own adds each.
     fn count(&self, number: u8, numbers: &mut BTreeMap<u8, u64>) {
         *numbers.entry(number).or_default() += self.inputs();
+    }
+
+    /// The samples that it has calls read; asked only where `compare` gave 0. Of a
+    /// call for one sample that one, else all samples of all planes that are lent.
+    fn strays(&self) -> Strays {
+        Strays::default()
     }
 }
 
@@ -79,6 +87,8 @@ pub struct Tally {
     name: &'static str,
     /// How many cases gave each number.
     numbers: BTreeMap<u8, u64>,
+    /// The samples that calls read which gave 0.
+    strays: Strays,
 }
 
 impl Tally {
@@ -89,9 +99,15 @@ impl Tally {
         cases: impl IntoIterator<Item = C>,
     ) -> Result<Self, Failure> {
         let mut numbers = BTreeMap::new();
+        let mut strays = Strays::default();
         for case in cases {
             match judged(&case) {
-                Ok(number) => case.count(number, &mut numbers),
+                Ok(number) => {
+                    case.count(number, &mut numbers);
+                    if number == 0 {
+                        strays += case.strays();
+                    }
+                }
                 Err(difference) => {
                     let (case, difference) = smallest(case, difference);
                     return Err(Failure::Differs {
@@ -102,7 +118,11 @@ impl Tally {
                 }
             }
         }
-        let tally = Self { name, numbers };
+        let tally = Self {
+            name,
+            numbers,
+            strays,
+        };
         if tally.accepted() < least.accepted || tally.refused() < least.refused {
             return Err(Failure::TooFew { tally, least });
         }
@@ -114,6 +134,19 @@ impl Tally {
         for (number, count) in other.numbers {
             *self.numbers.entry(number).or_default() += count;
         }
+        self.strays += other.strays;
+    }
+
+    /// Holds a run whose calls read codes to the stray bits that it has to see.
+    pub fn with_strays(self) -> Result<Self, Failure> {
+        if self.strays.suffice() {
+            return Ok(self);
+        }
+        Err(Failure::TooFewStrays { tally: self })
+    }
+
+    pub fn strays(&self) -> Strays {
+        self.strays
     }
 
     pub fn compared(&self) -> u64 {
@@ -153,6 +186,9 @@ impl fmt::Display for Tally {
         if !by_number.is_empty() {
             write!(f, " ({})", by_number.join(", "))?;
         }
+        if self.strays.samples > 0 {
+            write!(f, ", {}", self.strays)?;
+        }
         write!(f, ", none different")
     }
 }
@@ -169,6 +205,10 @@ pub enum Failure {
     TooFew {
         tally: Tally,
         least: Least,
+    },
+    /// Too few samples had stray bits, or were cut, or had none.
+    TooFewStrays {
+        tally: Tally,
     },
     /// The exports say that they refuse with other numbers.
     OtherNumbers {
@@ -193,6 +233,12 @@ impl fmt::Display for Failure {
                 f,
                 "{tally}; but expected at least {} accepted and {} refused",
                 least.accepted, least.refused
+            ),
+            Self::TooFewStrays { tally } => write!(
+                f,
+                "{tally}; but of {} samples expected at least a third with stray bits, a tenth cut, \
+                 and a quarter without",
+                tally.strays.samples
             ),
             Self::OtherNumbers { tally, said } => write!(
                 f,

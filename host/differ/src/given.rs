@@ -1,5 +1,6 @@
 //! Planes that are lent for reading: a shape by its numbers, which need not be
-//! within the bounds, a length, which need not suffice, and bytes.
+//! within the bounds, a length, which need not suffice, and bytes. Where codes are
+//! read, the desk gets the bytes as they are, and the Rust gets them cut.
 
 use std::cell::OnceCell;
 use std::fmt;
@@ -11,6 +12,7 @@ use crate::case::smaller_numbers;
 use crate::judge;
 use crate::lent::Between;
 use crate::random::Random;
+use crate::stray::Strays;
 
 /// How the bytes of an input are made.
 #[derive(Debug, Clone, PartialEq, Eq)]
@@ -23,9 +25,20 @@ pub enum Contents {
     Ends(u64),
     /// Rows of 0 and rows of 255 in turn: the largest comb.
     Stripes,
-    /// Codes that make a picture, from this seed. They stand so many bits
-    /// further up, as those of a biplanar frame do.
-    Picture { kind: Kind, seed: u64, up: u32 },
+    /// Any codes of the depth, from this seed. They stand so many bits further
+    /// up, as those of a biplanar frame do. With stray bits, more than half of the
+    /// words have some: above the code, or below one that stands further up.
+    Codes { seed: u64, up: u32, stray: bool },
+    /// Codes that make a picture, from this seed, so many bits further up. With
+    /// stray bits, the codes go on to twice the largest of the depth, and words
+    /// past it, any of them, count as it; below codes that stand further up there
+    /// is noise.
+    Picture {
+        kind: Kind,
+        seed: u64,
+        up: u32,
+        stray: bool,
+    },
     /// These bytes, then zeros.
     Listed(Vec<u8>),
 }
@@ -43,9 +56,9 @@ pub enum Kind {
     Few,
     /// One code, and on it noise about as large as the bias against slants.
     Calm,
-    /// Two rows near 0 and two near 65,535 in turn, past the depth: between
-    /// them the scores are so large that the bias is rounded, and may tie.
-    Over,
+    /// Two rows near 0 and two near the largest code in turn, which may go on just
+    /// past it: a cut that is off by one makes another picture.
+    Bars,
 }
 
 const KINDS: [Kind; 6] = [
@@ -54,14 +67,15 @@ const KINDS: [Kind; 6] = [
     Kind::Slant,
     Kind::Few,
     Kind::Calm,
-    Kind::Over,
+    Kind::Bars,
 ];
 
 impl Kind {
-    /// The code at any place of a picture with codes from 0 to `most`.
-    fn painter(self, seed: u64, most: u64) -> Box<dyn FnMut(i64, i64) -> u64> {
+    /// The code at any place of a picture with codes from 0 to `full`; or, where
+    /// it goes `past` that, to twice as many.
+    fn painter(self, seed: u64, full: u64, past: bool) -> Box<dyn FnMut(i64, i64) -> u64> {
         let mut random = Random::new(seed);
-        let codes = most + 1;
+        let codes = if past { 2 * (full + 1) } else { full + 1 };
         let ground = random.below(codes);
         match self {
             Self::Flat => Box::new(move |_, _| ground),
@@ -86,14 +100,15 @@ impl Kind {
                 Box::new(move |_, _| *random.pick(&levels[..count]))
             }
             Self::Calm => {
-                let above = random.between(1, 1 + codes / 200);
-                Box::new(move |_, _| (ground + random.below(above + 1)).min(most))
+                let above = random.between(1, 1 + full / 200);
+                Box::new(move |_, _| (ground + random.below(above + 1)).min(codes - 1))
             }
-            Self::Over => {
+            Self::Bars => {
                 let noise = random.between(2, 4);
+                let highest = if past { full + 2 } else { full };
                 Box::new(move |_, y| match y % 4 {
                     0 | 1 => random.below(noise),
-                    _ => 65_535 - random.below(noise),
+                    _ => highest - random.below(noise),
                 })
             }
         }
@@ -103,7 +118,32 @@ impl Kind {
 /// A failing input of at most so many bytes is printed byte by byte.
 const LISTED: usize = 64;
 
+/// A code as it is, or with stray bits: any above it, or below one that stands
+/// `up` further; words around the largest code; and the largest word.
+fn strayed(random: &mut Random, code: u64, depth: u32, up: u32) -> u64 {
+    let full = (1 << depth) - 1;
+    let beside = 1 + random.below((1 << (16 - depth)) - 1);
+    match random.below(8) {
+        0 | 1 => code << up,
+        2 | 3 if up == 0 => full - 1 + random.below(4),
+        2 | 3 => (full - random.below(2)) << up | random.below(1 << up),
+        4 => 65_535,
+        _ if up == 0 => beside << depth | code,
+        _ => code << up | beside,
+    }
+}
+
+/// How far up the codes of a plane stand. A depth or a layout past its bounds
+/// needs contents as well.
+fn up(shape: PlaneNumbers) -> u32 {
+    match shape.depth.clamp(8, 16) {
+        depth @ 9.. if shape.layout > 0 => 16 - depth,
+        _ => 0,
+    }
+}
+
 impl Contents {
+    /// For planes that are copied.
     pub fn random(random: &mut Random) -> Self {
         match random.below(8) {
             0 | 1 => Self::Noise(random.next()),
@@ -113,21 +153,30 @@ impl Contents {
         }
     }
 
-    /// Mostly pictures, for a plane of this depth and layout.
+    /// For a plane of this depth and layout whose codes are read.
+    pub fn codes(random: &mut Random, shape: PlaneNumbers) -> Self {
+        match random.below(8) {
+            0 => Self::Noise(random.next()),
+            1 => Self::Ends(random.next()),
+            2 => Self::Stripes,
+            kind => Self::Codes {
+                seed: random.next(),
+                up: up(shape),
+                stray: kind > 3,
+            },
+        }
+    }
+
+    /// Likewise, and mostly pictures.
     pub fn picture(random: &mut Random, shape: PlaneNumbers) -> Self {
         if random.one_in(4) {
-            return Self::random(random);
+            return Self::codes(random, shape);
         }
-        // A depth or a layout past its bounds needs contents as well.
-        let depth = shape.depth.clamp(8, 16);
         Self::Picture {
             kind: *random.pick(&KINDS),
             seed: random.next(),
-            up: if depth > 8 && shape.layout > 0 {
-                16 - depth
-            } else {
-                0
-            },
+            up: up(shape),
+            stray: !random.one_in(6),
         }
     }
 
@@ -161,19 +210,40 @@ impl Contents {
                 }
                 bytes
             }
-            Self::Picture { kind, seed, up } => {
+            Self::Codes { seed, up, stray } => {
                 let depth = depth.clamp(8, 16);
-                let mut code = kind.painter(*seed, (1 << depth) - 1);
-                let mut bytes = vec![0; length];
-                for (y, row) in bytes.chunks_mut(stride.max(1)).enumerate() {
-                    let size = if depth > 8 { 2 } else { 1 };
-                    for (x, sample) in row.chunks_mut(size).enumerate() {
-                        let code = code(x as i64, y as i64) << up;
-                        let count = sample.len();
-                        sample.copy_from_slice(&code.to_le_bytes()[..count]);
+                let mut random = Random::new(*seed);
+                let stray = *stray && (9..16).contains(&depth);
+                painted(length, stride, depth, |_, _| {
+                    let code = random.below(1 << depth);
+                    if stray {
+                        strayed(&mut random, code, depth, *up)
+                    } else {
+                        code << up
                     }
-                }
-                bytes
+                })
+            }
+            Self::Picture {
+                kind,
+                seed,
+                up,
+                stray,
+            } => {
+                let depth = depth.clamp(8, 16);
+                let full = (1 << depth) - 1;
+                let stray = *stray && (9..16).contains(&depth);
+                let mut code = kind.painter(*seed, full, stray && *up == 0);
+                let mut random = Random::new(!seed);
+                painted(length, stride, depth, |x, y| {
+                    let code = code(x, y);
+                    if code > full && random.one_in(2) {
+                        random.between(full + 1, 65_535)
+                    } else if stray && *up > 0 {
+                        code << up | random.below(1 << up)
+                    } else {
+                        code << up
+                    }
+                })
             }
             Self::Listed(bytes) => {
                 let mut bytes = bytes.clone();
@@ -210,14 +280,36 @@ impl Contents {
     }
 }
 
+/// So many bytes of words, or of bytes at a depth of 8, by column and row; the
+/// padding likewise.
+fn painted(
+    length: usize,
+    stride: usize,
+    depth: u32,
+    mut word: impl FnMut(i64, i64) -> u64,
+) -> Vec<u8> {
+    let mut bytes = vec![0; length];
+    let size = if depth > 8 { 2 } else { 1 };
+    for (y, row) in bytes.chunks_mut(stride.max(1)).enumerate() {
+        for (x, sample) in row.chunks_mut(size).enumerate() {
+            let word = word(x as i64, y as i64).to_le_bytes();
+            let count = sample.len();
+            sample.copy_from_slice(&word[..count]);
+        }
+    }
+    bytes
+}
+
 /// A plane that is lent, with the shape that is said of it.
 #[derive(Clone)]
 pub struct Given {
     pub shape: PlaneNumbers,
     pub length: usize,
     pub contents: Contents,
-    /// Made when first asked for: shrinking names many more than it tries.
+    /// Each made when first asked for: shrinking names many more than it tries.
     sides: OnceCell<Sides>,
+    fed: OnceCell<Plane>,
+    strays: OnceCell<Strays>,
 }
 
 #[derive(Clone)]
@@ -243,6 +335,8 @@ impl Given {
             length,
             contents,
             sides: OnceCell::new(),
+            fed: OnceCell::new(),
+            strays: OnceCell::new(),
         }
     }
 
@@ -274,9 +368,30 @@ impl Given {
         self.sides().rattle.lent()
     }
 
-    /// The same plane as the Rust has it.
+    /// The same plane, every bit of it: as it was before a call, and as the Rust has
+    /// it where it only copies.
     pub fn plane(&self) -> &Plane {
         &self.sides().rust
+    }
+
+    /// The plane as the Rust is fed it where it reads codes: a planar one is cut.
+    pub fn fed(&self) -> &Plane {
+        if self.shape.layout > 0 {
+            return self.plane();
+        }
+        let cut = || oracle::cut(self.plane().clone(), self.shape.depth);
+        self.fed.get_or_init(cut)
+    }
+
+    /// All its samples.
+    pub fn strays(&self) -> Strays {
+        let counted = || Strays::of_plane(&self.plane().data, self.shape);
+        *self.strays.get_or_init(counted)
+    }
+
+    /// The sample at the nearest place inside.
+    pub fn strays_at(&self, x: i32, y: i32) -> Strays {
+        Strays::at(&self.plane().data, self.shape, x, y)
     }
 
     /// With another shape, as long or as much too short as this one is.
@@ -369,19 +484,32 @@ fn smaller_shapes(shape: PlaneNumbers) -> Vec<PlaneNumbers> {
     found
 }
 
+/// A depth of a plane whose codes are read: mostly one that leaves room for stray
+/// bits.
+pub fn depth(random: &mut Random) -> u32 {
+    match random.below(16) {
+        0 | 1 => 8,
+        2 => 16,
+        _ => random.between(9, 15) as u32,
+    }
+}
+
+/// Layouts to pick from: half of the planes are planar, since there alone a code
+/// is cut.
+pub const LAYOUTS: &[u32] = &[0, 0, 0, 1, 2, 3];
+
+/// For calls that are told none.
+pub const PLANAR: &[u32] = &[0];
+
 /// A plane with at most so many samples in a row and so many rows: two in three
 /// within the bounds and long enough, the others at or past some bound.
-pub fn random(random: &mut Random, most_width: u32, most_height: u32, layouts: u32) -> Given {
+pub fn random(random: &mut Random, most_width: u32, most_height: u32, layouts: &[u32]) -> Given {
     let mut shape = PlaneNumbers {
         width: random.between(1, most_width.into()) as u32,
         height: random.between(1, most_height.into()) as u32,
-        depth: if random.one_in(4) {
-            8
-        } else {
-            random.between(9, 16) as u32
-        },
+        depth: depth(random),
         stride: 0,
-        layout: random.below(layouts.into()) as u32,
+        layout: *random.pick(layouts),
     };
     let mut padding = *random.pick(&[0, 0, 1, 2, 3, 7, 16, 61]);
     let whole = !random.one_in(3);
@@ -403,7 +531,7 @@ pub fn random(random: &mut Random, most_width: u32, most_height: u32, layouts: u
         shape.stride = *random.pick(if whole { &strides[..1] } else { strides });
         shape.height = shape.height.min(3);
     }
-    if layouts > 1 && !whole && random.one_in(8) {
+    if layouts.len() > 1 && !whole && random.one_in(8) {
         // Some of them would name a layout if they were cut to fewer bits.
         shape.layout = *random.pick(&[4, 5, 255, 256, 258, 65_537, u32::MAX]);
     }
@@ -419,7 +547,8 @@ pub fn random(random: &mut Random, most_width: u32, most_height: u32, layouts: u
         let less = *random.pick(&[0, 0, 1, 1, 2, needed / 2, needed]);
         needed.saturating_sub(less)
     };
-    Given::new(shape, length as usize, Contents::random(random))
+    let contents = Contents::codes(random, shape);
+    Given::new(shape, length as usize, contents)
 }
 
 /// Around the bounds, and around the ends of 16 and of 32 bits.

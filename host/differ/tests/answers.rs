@@ -5,7 +5,7 @@ use std::fs;
 use std::path::{Path, PathBuf};
 
 use desk::calls::CALLS;
-use differ::answers::{self, Answer, Counts};
+use differ::answers::{self, Answer, Counts, Kinds};
 use differ::program::Program;
 use differ::runs::RUNS;
 
@@ -60,6 +60,34 @@ fn every_call_is_there_with_every_number() {
             assert_eq!(all, counts.gave(name, 0) + listed, "{name}: {counts}");
         }
     }
+}
+
+/// Planes with stray bits, planes of which codes are cut, and planes without any.
+#[test]
+fn calls_that_read_codes_get_them_with_and_without_stray_bits() {
+    let mut found = 0;
+    for (archive, calls) in answers::archives() {
+        let counts = Counts::of(&answers::list(archive));
+        for name in calls {
+            let Kinds { stray, cut, clean } = counts.kinds(name);
+            let reads = RUNS
+                .iter()
+                .any(|run| run.reads && run.calls.contains(&name));
+            if !reads || stray + clean == 0 {
+                assert_eq!((stray, cut, clean), (0, 0, 0), "{name}");
+                continue;
+            }
+            found += 1;
+            let all = stray + clean;
+            assert_eq!(all, counts.gave(name, 0), "{name}");
+            assert!(3 * stray >= all, "{name}: {stray} of {all} stray");
+            assert!(8 * cut >= all, "{name}: {cut} of {all} cut");
+            assert!(8 * clean >= all, "{name}: {clean} of {all} clean");
+        }
+    }
+    // Of the detector's calls only one is given pictures.
+    let reading = RUNS.iter().filter(|run| run.reads).count();
+    assert_eq!(found, reading);
 }
 
 #[test]

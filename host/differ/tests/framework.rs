@@ -1,14 +1,18 @@
 //! The frame of the runs is itself able to fail: wrong code is caught and made
-//! small, a write too far is caught, and a run that compares nothing fails.
+//! small, a write too far is caught, and a run that compares nothing fails, or one
+//! that has too few stray bits.
 
 use std::collections::BTreeMap;
 use std::hint::black_box;
 
+use desk::calls::PlaneNumbers;
 use differ::case::{Case, Difference, Failure, Least, Tally, same, smaller_numbers};
-use differ::given::{self, Contents, Given, Kind};
+use differ::given::{self, Contents, Given, Kind, LAYOUTS};
 use differ::lent::{Between, Guarded, one_place, three_places};
 use differ::plane::{Layout, cut, flipped, plane};
 use differ::random::{Random, read_seed};
+use differ::runs::Run;
+use differ::stray::Strays;
 
 /// Both sides double a number below 1000 and refuse another with 3; one of
 /// them goes wrong from 300 on.
@@ -310,7 +314,7 @@ fn a_misread_plane_is_made_small() {
     let mut random = Random::new(6);
     let mut found = 0;
     for _ in 0..15 {
-        let case = Misread(given::random(&mut random, 10, 4, 4));
+        let case = Misread(given::random(&mut random, 10, 4, LAYOUTS));
         let Err(difference) = case.compare() else {
             continue;
         };
@@ -349,13 +353,26 @@ fn contents_have_the_length_asked_for() {
     assert_eq!(Contents::Within(1).bytes(50, 3, 8), noise);
 }
 
+const KINDS: [Kind; 6] = [
+    Kind::Flat,
+    Kind::Ramp,
+    Kind::Slant,
+    Kind::Few,
+    Kind::Calm,
+    Kind::Bars,
+];
+
 #[test]
 fn pictures_keep_to_their_depth_and_stand_where_they_are_read() {
-    let kinds = [Kind::Flat, Kind::Ramp, Kind::Slant, Kind::Few, Kind::Calm];
-    for kind in kinds {
+    for kind in KINDS {
         let mut different = 0;
         for seed in 0..20 {
-            let of = |up| Contents::Picture { kind, seed, up };
+            let of = |up| Contents::Picture {
+                kind,
+                seed,
+                up,
+                stray: false,
+            };
             // Three samples of two bytes in each row, and one byte of padding.
             let low = of(0).bytes(70, 7, 10);
             let high = of(6).bytes(70, 7, 10);
@@ -374,6 +391,213 @@ fn pictures_keep_to_their_depth_and_stand_where_they_are_read() {
         }
         assert_eq!(different > 10, kind != Kind::Flat, "{kind:?}: {different}");
     }
+}
+
+// ---- Stray bits
+
+fn words(bytes: &[u8]) -> Vec<u16> {
+    let words = bytes.chunks_exact(2);
+    words.map(|w| u16::from_le_bytes([w[0], w[1]])).collect()
+}
+
+/// Two hundred samples in a row, and three rows; the stride has no padding.
+fn shape(depth: u32, layout: u32) -> PlaneNumbers {
+    let components = if layout > 1 { 2 } else { 1 };
+    PlaneNumbers {
+        width: 200,
+        height: 3,
+        depth,
+        stride: 400 * components,
+        layout,
+    }
+}
+
+fn given(depth: u32, layout: u32, contents: Contents) -> Given {
+    let shape = shape(depth, layout);
+    Given::new(shape, (shape.height * shape.stride) as usize, contents)
+}
+
+/// Words just at and just around the largest code are among them, the largest
+/// word too, and more than half have stray bits; without any, none has.
+#[test]
+fn codes_have_stray_bits_where_they_are_asked_for() {
+    for depth in 9..16 {
+        let full = u16::MAX >> (16 - depth);
+        let of = |layout, stray| {
+            let up = if layout > 0 { 16 - depth } else { 0 };
+            let seed = 7;
+            given(depth, layout, Contents::Codes { seed, up, stray })
+        };
+        let found = words(of(0, true).lent());
+        for around in [full - 1, full, full + 1, full + 2, u16::MAX] {
+            assert!(found.contains(&around), "{depth} bits: no {around}");
+        }
+        for layout in 0..4 {
+            let Strays {
+                samples,
+                stray,
+                cut,
+            } = of(layout, true).strays();
+            assert_eq!(samples, 600);
+            assert!((300..500).contains(&stray), "{depth} bits: {stray}");
+            assert_eq!(cut, if layout == 0 { stray } else { 0 });
+            let clean = of(layout, false);
+            assert_eq!((clean.strays().stray, clean.strays().samples), (0, 600));
+            assert_eq!(clean.fed(), clean.plane());
+        }
+    }
+}
+
+/// As the Rust is fed a picture it is one of the depth, and the words that were cut
+/// are those past it. A biplanar one has noise below its codes.
+#[test]
+fn pictures_go_on_past_the_depth() {
+    for kind in KINDS {
+        let (mut stray, mut clean) = (0, 0);
+        for seed in 0..40 {
+            let of = |layout, up, stray| {
+                let contents = Contents::Picture {
+                    kind,
+                    seed,
+                    up,
+                    stray,
+                };
+                given(12, layout, contents)
+            };
+            let planar = of(0, 0, true);
+            let fed = words(&planar.fed().data);
+            let pairs = words(planar.lent()).into_iter().zip(&fed);
+            assert!(pairs.into_iter().all(|(word, fed)| *fed == word.min(4095)));
+            stray += planar.strays().stray;
+            clean += planar.strays().samples - planar.strays().stray;
+
+            let high = words(of(1, 4, true).lent());
+            let low = words(of(0, 0, false).lent());
+            assert!(high.iter().zip(&low).all(|(high, low)| high >> 4 == *low));
+            assert!(high.iter().any(|word| word & 15 != 0));
+        }
+        assert!(stray > 5000 && clean > 5000, "{kind:?}: {stray}, {clean}");
+    }
+}
+
+/// The desk is lent every bit, and the Rust is fed what is not above the largest
+/// code, byte for byte; of biplanar planes and of 8 and 16 bits all.
+#[test]
+fn the_rust_is_fed_what_is_cut_and_nothing_else_changes() {
+    let mut random = Random::new(8);
+    let (mut cut, mut same) = (0, 0);
+    for _ in 0..600 {
+        let given = given::random(&mut random, 12, 6, LAYOUTS);
+        let PlaneNumbers {
+            width,
+            height,
+            depth,
+            stride,
+            layout,
+        } = given.shape;
+        let readable = given.strays().samples > 0;
+        let (lent, fed) = (given.lent(), &given.fed().data[..]);
+        assert_eq!(lent, given.plane().data);
+        assert_eq!(lent.len(), fed.len());
+        if !readable {
+            // No side is asked to read it.
+            continue;
+        }
+        if layout > 0 || depth == 8 || depth == 16 {
+            assert!(lent == fed, "{given:?}");
+            same += 1;
+            continue;
+        }
+        let full = (1u16 << depth) - 1;
+        let mut expected = lent.to_vec();
+        for y in 0..height {
+            for x in 0..width {
+                let at = (y * stride + 2 * x) as usize;
+                let word = u16::from_le_bytes([lent[at], lent[at + 1]]);
+                if word > full {
+                    expected[at..at + 2].copy_from_slice(&full.to_le_bytes());
+                }
+            }
+        }
+        assert!(fed == expected, "{given:?}");
+        let size = (given.fed().width, given.fed().height, given.fed().stride);
+        assert_eq!(size, (width as usize, height as usize, stride as usize));
+        cut += u32::from(fed != lent);
+        same += u32::from(fed == lent);
+    }
+    assert!(cut > 60 && same > 100, "{cut} cut, {same} the same");
+}
+
+/// What is read is as many samples with stray bits, and as many that are cut.
+#[derive(Debug, Clone)]
+struct Read(u64, u64, u8);
+
+impl Case for Read {
+    fn compare(&self) -> Result<u8, Difference> {
+        Ok(self.2)
+    }
+
+    fn smaller(&self) -> Vec<Self> {
+        Vec::new()
+    }
+
+    fn strays(&self) -> Strays {
+        Strays {
+            samples: 100,
+            stray: self.0,
+            cut: self.1,
+        }
+    }
+}
+
+const NOTHING: Least = Least {
+    accepted: 0,
+    refused: 0,
+};
+
+#[test]
+fn a_run_with_too_few_stray_bits_fails() {
+    let run = |cases: &[Read]| Tally::of("read", NOTHING, cases.to_vec()).expect("none differs");
+    // What is refused is not read.
+    let tally = run(&[Read(40, 10, 0), Read(27, 10, 0), Read(0, 0, 6)]);
+    let tally = tally.with_strays().expect("a third");
+    let Strays { samples, .. } = tally.strays();
+    assert_eq!(samples, 200);
+    let text = "read: 3 compared, 2 accepted, 1 refused (1 with 6), 33 % of the samples with stray \
+                bits, 10 % cut, none different";
+    assert_eq!(tally.to_string(), text);
+    for wrong in [
+        Read(33, 20, 0),
+        Read(50, 9, 0),
+        Read(76, 20, 0),
+        Read(50, 20, 4),
+    ] {
+        let failure = run(std::slice::from_ref(&wrong)).with_strays();
+        let failure = failure.expect_err("too few of a kind");
+        assert!(matches!(failure, Failure::TooFewStrays { .. }), "{wrong:?}");
+        let text = failure.to_string();
+        assert!(text.contains("expected at least a third with"), "{text}");
+    }
+}
+
+/// The runs are held to it where their calls read codes.
+#[test]
+fn a_run_that_reads_is_held_to_its_stray_bits() {
+    let run = |reads, run| Run {
+        name: "read",
+        calls: &[],
+        about: "",
+        reads,
+        run,
+        answers: |_, _| Vec::new(),
+    };
+    let clean = |_: &mut Random| Tally::of("read", NOTHING, [Read(0, 0, 0)]);
+    let stray = |_: &mut Random| Tally::of("read", NOTHING, [Read(50, 50, 0)]);
+    let tally = |run: Run| run.tally(&mut Random::new(1));
+    let failure = tally(run(true, clean)).expect_err("no stray bits");
+    assert!(matches!(failure, Failure::TooFewStrays { .. }), "{failure}");
+    tally(run(true, stray)).expect("half of them have stray bits");
+    tally(run(false, clean)).expect("nothing is read");
 }
 
 /// A stretch of inputs counts as many, and a wrong one in it is found.

@@ -5,6 +5,7 @@
 use std::fmt::Write;
 
 use desk::Parity::{self, Bottom, Top};
+use differ::random::Random;
 use differ::shots::{Grain, Reel, Scene, Shot, Size, Tape};
 use oracle::mediadecoder::es::Format;
 use oracle::mediadecoder::video::{Frame, Plane};
@@ -40,6 +41,26 @@ impl Pictures {
         }
     }
 
+    /// The same with stray bits: where a code is kept as 255, a word past 1,023
+    /// stands in its place, another one in every frame.
+    fn strayed(&self) -> Self {
+        assert_eq!(self.depth, 10);
+        let mut random = Random::new(1);
+        let mut word = |code: &[u8]| {
+            let code = u16::from_le_bytes([code[0], code[1]]);
+            let past = random.between(1024, 65_535) as u16;
+            if code < 1020 { code } else { past }
+        };
+        let mut stray = |luma: &Vec<u8>| {
+            let words = luma.chunks_exact(2).map(&mut word);
+            words.flat_map(u16::to_le_bytes).collect()
+        };
+        Self {
+            all: self.all.iter().map(&mut stray).collect(),
+            ..*self
+        }
+    }
+
     /// The same with the two fields in each other's place; the height is even.
     fn turned(&self) -> Self {
         let row = self.width * if self.depth > 8 { 2 } else { 1 };
@@ -55,7 +76,7 @@ impl Pictures {
         }
     }
 
-    /// A line for each frame, by the original's detector.
+    /// A line for each frame, by the original's detector, which is fed cut codes.
     fn by_the_original(&self, first: impl Fn(usize) -> Parity) -> String {
         let bytes = if self.depth > 8 { 2 } else { 1 };
         let mut detector = Detector::new();
@@ -67,6 +88,7 @@ impl Pictures {
                 width: self.width,
                 height: self.height,
             };
+            let plane = oracle::cut(plane, self.depth.into());
             let cadence = detector.push(&Frame {
                 format: Format {
                     width: self.width as u32,
@@ -158,8 +180,9 @@ const LOCKED: usize = 50;
 fn films_are_listed_as_the_original_does_over_their_pictures() {
     for (name, film) in films() {
         assert_eq!(film.all.len(), 60, "{name}");
-        let formats: [(Pictures, [&str; 2]); 2] = [
+        let formats: [(Pictures, [&str; 2]); 3] = [
             (film.deeper(), ["420p10", "422p10"]),
+            (film.deeper().strayed(), ["420p10", "422p10"]),
             (film, ["420jpeg", "422"]),
         ];
         for (film, formats) in formats {
@@ -183,6 +206,20 @@ fn films_are_listed_as_the_original_does_over_their_pictures() {
             }
         }
     }
+}
+
+/// Stray bits change no line, though one film has them in many of its samples.
+#[test]
+fn stray_bits_change_no_line() {
+    let mut stray = 0;
+    for (name, film) in films() {
+        let (clean, strayed) = (film.deeper(), film.deeper().strayed());
+        let wanted = clean.by_measure("422p10", "It", None);
+        assert_eq!(strayed.by_measure("422p10", "It", None), wanted, "{name}");
+        let pairs = clean.all.iter().zip(&strayed.all);
+        stray += pairs.filter(|(clean, strayed)| clean != strayed).count();
+    }
+    assert!(stray >= 60, "{stray} pictures");
 }
 
 /// From frame 30 on the bottom field comes first. That frame is compared with none,

@@ -102,8 +102,16 @@ impl Shape {
         usize::from(self.stride) * usize::from(self.height)
     }
 
-    /// A picture as the original's detector takes it: it looks at luma alone.
+    /// A picture as the original's detector is fed it: it looks at luma alone, and
+    /// a code above the largest of the depth, which counts as that, is cut before.
     fn frame(&self, bytes: &[u8]) -> Frame {
+        let luma = Plane {
+            data: bytes.to_vec(),
+            stride: self.stride.into(),
+            width: self.width.into(),
+            height: self.height.into(),
+        };
+        let luma = oracle::cut(luma, self.depth.into());
         Frame {
             format: Format {
                 width: self.width.into(),
@@ -111,16 +119,7 @@ impl Shape {
                 depth: self.depth as u8,
                 ..Format::default()
             },
-            planes: [
-                Plane {
-                    data: bytes.to_vec(),
-                    stride: self.stride.into(),
-                    width: self.width.into(),
-                    height: self.height.into(),
-                },
-                Plane::default(),
-                Plane::default(),
-            ],
+            planes: [luma, Plane::default(), Plane::default()],
             structure: Structure::Frame,
             top_field_first: self.leading == Parity::Top,
             ..Frame::default()

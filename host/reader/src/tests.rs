@@ -50,6 +50,47 @@ fn the_long_reel_is_this() {
     assert!(shipped("crates/cadence/stdout") == text.as_bytes());
 }
 
+/// Film of 64 by 16, of ten bits: the fields are 0 or full in turn. A full one has
+/// 1,023 everywhere, or in its place the other words, in turn.
+fn ten_bits(full: &[u16]) -> Reel {
+    let mut levels = [true; 2];
+    let picture = |at: usize| {
+        // By the pattern, step 2 repeats the leading field, and step 4 the other:
+        // here a full one.
+        levels[0] ^= at % 5 != 2;
+        levels[1] ^= at % 5 != 4;
+        let word = |sample: usize| match levels[sample / 64 % 2] {
+            true => full[(sample + at) % full.len()],
+            false => 0,
+        };
+        let words = (0..64 * 16).map(word);
+        words.flat_map(u16::to_le_bytes).collect()
+    };
+    Reel {
+        shape: vec![64, 16, 10, 128, 0],
+        entries: Vec::new(),
+        pictures: (0..20).map(picture).collect(),
+    }
+}
+
+/// Read as it stands, 0400 would be kept as 0, and no field of it would ever move.
+#[test]
+fn codes_past_the_largest_count_as_the_largest() {
+    let clean = listing(&ten_bits(&[1023]).bytes());
+    assert!(clean.contains("\n10 whole 1\n"), "{clean}");
+    assert!(
+        clean.ends_with("\nwhole 4 drop 2 spanning 4 none 10\n"),
+        "{clean}"
+    );
+    for stray in [&[0x07FF][..], &[0x0400], &[0x0401, 0xFFFF, 0x0C00, 1023]] {
+        assert_eq!(listing(&ten_bits(stray).bytes()), clean, "{stray:x?}");
+    }
+    // At 11 bits these two are a code each, and no field repeats another.
+    let mut deeper = ten_bits(&[0x07FF, 0x0400]);
+    deeper.shape[2] = 11;
+    assert_ne!(listing(&deeper.bytes()), clean);
+}
+
 /// One entry, and two pictures of two rows of three bytes, the last padding.
 fn small() -> Reel {
     Reel {

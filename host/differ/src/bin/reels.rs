@@ -378,11 +378,15 @@ fn film_entries(random: &mut Random, count: u64) -> Vec<Entry> {
 }
 
 /// Shapes of pictures: width, height, depth, and padding of the stride.
-const SHAPES: [(u16, u16, u16, u16); 10] = [
+const SHAPES: [(u16, u16, u16, u16); 14] = [
     (64, 16, 8, 0),
     (64, 16, 8, 5),
     (50, 34, 8, 0),
     (33, 40, 10, 1),
+    (64, 16, 10, 0),
+    (50, 18, 9, 3),
+    (65, 17, 12, 0),
+    (48, 32, 15, 2),
     (64, 16, 16, 0),
     (128, 64, 8, 0),
     (1, 1, 8, 0),
@@ -391,19 +395,52 @@ const SHAPES: [(u16, u16, u16, u16); 10] = [
     (1, 4352, 8, 0),
 ];
 
+/// A row of any bytes. Where a word has more bits than its code, half of the words
+/// have stray bits, and count as the largest code.
+fn any_row(random: &mut Random, stride: usize, depth: u16) -> Vec<u8> {
+    let mut row = random.bytes(stride);
+    if let 9..16 = depth {
+        for word in row.chunks_exact_mut(2) {
+            word[1] &= u8::MAX >> (16 - depth);
+            if random.one_in(2) {
+                stray(random, word, depth);
+            }
+        }
+    }
+    row
+}
+
+/// Any word past the largest code in place of this one.
+fn stray(random: &mut Random, word: &mut [u8], depth: u16) {
+    let past = random.between(1 << depth, u16::MAX.into()) as u16;
+    word.copy_from_slice(&past.to_le_bytes());
+}
+
+/// Other stray bits in place of those in a row, which leave it as it was.
+fn stray_again(random: &mut Random, row: &mut [u8], depth: u16) {
+    for word in row.chunks_exact_mut(2) {
+        if u32::from(u16::from_le_bytes([word[0], word[1]])) >= 1 << depth {
+            stray(random, word, depth);
+        }
+    }
+}
+
 /// Pictures of a film: each field is that of the picture before, or another.
 fn film_pictures(random: &mut Random, count: u64, shape: &[u16]) -> Vec<Vec<u8>> {
     let splice_in = *random.pick(&[15, 40, 1_000_000]);
     let [height, stride, parity] = [shape[1], shape[3], shape[4]].map(usize::from);
+    let depth = shape[2];
     let mut film = Film {
         step: random.below(5),
         still: 0,
         random: Random::new(random.next()),
     };
-    let mut picture = random.bytes(stride * height);
+    let rows = (0..height).map(|_| any_row(random, stride, depth));
+    let mut picture: Vec<u8> = rows.collect::<Vec<_>>().concat();
     // Of 8 bits: all samples a little off, by just so much as counts as
-    // different, or as just does not. Else any others, and few a little off.
-    let least = shape[2] == 8 && random.one_in(3);
+    // different, or as just does not. Else any others, and few a little off; stray
+    // bits are others in every picture.
+    let least = depth == 8 && random.one_in(3);
     let noise = random.one_in(2);
     let pictures = (0..count).map(|_| {
         let (leading, trailing) = film.next(splice_in);
@@ -419,10 +456,15 @@ fn film_pictures(random: &mut Random, count: u64, shape: &[u16]) -> Vec<Vec<u8>>
                     };
                 }
             } else if moves {
-                row.copy_from_slice(&random.bytes(stride));
-            } else if noise && random.one_in(4) {
-                let at = random.below(stride as u64) as usize;
-                row[at] = row[at].wrapping_add(random.between(7, 9) as u8);
+                row.copy_from_slice(&any_row(random, stride, depth));
+            } else {
+                if noise && random.one_in(4) {
+                    let at = random.below(stride as u64) as usize;
+                    row[at] = row[at].wrapping_add(random.between(7, 9) as u8);
+                }
+                if let 9..16 = depth {
+                    stray_again(random, row, depth);
+                }
             }
         }
         picture.clone()
@@ -547,7 +589,9 @@ fn main() -> ExitCode {
 #[cfg(test)]
 mod tests {
     use super::{Raw, film_entries, film_pictures, good, small};
+    use desk::calls::PlaneNumbers;
     use differ::random::Random;
+    use differ::stray::Strays;
     use reader::listing;
     use reader::reel::Reel;
 
@@ -577,6 +621,40 @@ mod tests {
         assert!(by_entries >= 20, "{by_entries}");
         assert!(by_pictures >= 40, "{by_pictures}");
         assert!(lost >= 5, "{lost}");
+    }
+
+    /// About half of the samples are past the largest code, and films are found as
+    /// those of 8 bits are.
+    #[test]
+    fn deeper_films_have_stray_bits_and_lock() {
+        let mut random = Random::new(3);
+        for depth in 9..16 {
+            let shape = vec![64, 16, depth, 129, 0];
+            let numbers = PlaneNumbers {
+                width: 64,
+                height: 16,
+                depth: depth.into(),
+                stride: 129,
+                layout: 0,
+            };
+            let mut strays = Strays::default();
+            let mut locked = 0;
+            for _ in 0..20 {
+                let pictures = film_pictures(&mut random, 40, &shape);
+                for picture in &pictures {
+                    strays += Strays::of_plane(picture, numbers);
+                }
+                let reel = Reel {
+                    shape: shape.clone(),
+                    pictures,
+                    ..Reel::default()
+                };
+                locked += u32::from(locks(&reel));
+            }
+            let Strays { samples, cut, .. } = strays;
+            assert!((45..55).contains(&(100 * cut / samples)), "{strays}");
+            assert!(locked >= 8, "{depth} bits: {locked}");
+        }
     }
 
     #[test]

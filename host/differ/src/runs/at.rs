@@ -8,6 +8,7 @@ use crate::case::{Case, Difference, Failure, Least, Tally};
 use crate::judge;
 use crate::lent::one_place;
 use crate::random::Random;
+use crate::stray::Strays;
 
 pub const NAME: &str = "at";
 
@@ -44,6 +45,10 @@ impl Case for At {
     fn smaller(&self) -> Vec<Self> {
         self.0.smaller().into_iter().map(Self).collect()
     }
+
+    fn strays(&self) -> Strays {
+        self.0.strays()
+    }
 }
 
 pub fn run(random: &mut Random) -> Result<Tally, Failure> {
@@ -62,4 +67,17 @@ pub(crate) fn answers(random: Random) -> impl Iterator<Item = Answer> {
         let number = wanted.err().unwrap_or(0);
         case.0.answer("at", number).float(wanted.ok())
     })
+}
+
+#[cfg(test)]
+mod tests {
+    use super::{At, read};
+
+    /// Of ten bits each, by the rules: the largest code is 1,023.
+    #[test]
+    fn a_code_past_the_largest_is_worth_1() {
+        let values: Vec<_> = read::smallest().map(|asked| At(asked).wanted()).collect();
+        let below = 1022.0 / 1023.0;
+        assert_eq!(values, [1.0, below, 1.0, 1.0, 1.0, 1.0].map(Ok));
+    }
 }

@@ -15,10 +15,11 @@ use super::film::{self, PATTERN, parity_named};
 use super::read;
 use crate::answers::Answer;
 use crate::case::{Case, Difference, Failure, Least, Tally, same, smaller_numbers};
-use crate::given::{self, Contents, Given};
+use crate::given::{self, Contents, Given, PLANAR};
 use crate::judge;
 use crate::lent::{Between, PATTERNS};
 use crate::random::Random;
+use crate::stray::Strays;
 
 pub const NAME: &str = "busy";
 
@@ -53,7 +54,8 @@ pub(crate) fn by_reading(
     (busy, total)
 }
 
-/// A picture of luma that stands below bands of known blocks.
+/// A picture of luma, as the Rust is fed it, that stands below bands of known
+/// blocks.
 struct Below<'a> {
     luma: &'a Plane,
     depth: u32,
@@ -187,7 +189,7 @@ impl Blocks {
         let shape = self.given.shape;
         let number = judge::films::busy(shape, self.given.length, self.room, self.parity);
         let counts = (number == 0).then(|| {
-            let now = film::kept_of(self.given.plane(), shape);
+            let now = film::kept_of(self.given.fed(), shape);
             let size = (shape.width as usize, shape.height as usize);
             by_reading(&now, then, size.0, size.1, self.parity)
         });
@@ -200,7 +202,7 @@ impl Blocks {
             Store::Listed(bytes) => bytes.clone(),
             Store::Near(seed) if self.is_whole() => {
                 let shape = self.given.shape;
-                let mut kept = film::kept_of(self.given.plane(), shape);
+                let mut kept = film::kept_of(self.given.fed(), shape);
                 let size = (shape.width as usize, shape.height as usize);
                 alter(&mut kept, size, &mut Random::new(*seed));
                 kept.extend(Random::new(*seed).bytes(16));
@@ -287,7 +289,7 @@ impl Case for Blocks {
 
         if let Some(counts) = wanted {
             let below = Below {
-                luma: self.given.plane(),
+                luma: self.given.fed(),
                 depth: shape.depth,
                 then: &then,
                 parity: self.parity,
@@ -368,6 +370,10 @@ impl Case for Blocks {
         }
         found
     }
+
+    fn strays(&self) -> Strays {
+        self.given.strays()
+    }
 }
 
 /// A store for a plane, near to it or not, and long enough.
@@ -390,19 +396,15 @@ fn shaped(random: &mut Random, width: u32, height: u32) -> Given {
     let mut shape = desk::calls::PlaneNumbers {
         width,
         height,
-        depth: if random.one_in(3) {
-            8
-        } else {
-            random.between(9, 16) as u32
-        },
+        depth: given::depth(random),
         stride: 0,
         layout: 0,
     };
     shape.stride = judge::row(shape) as u32 + *random.pick(&[0, 0, 1, 3, 16]);
     let length = judge::needed(shape) as usize + *random.pick(&[0, 0, 1, 64]);
     // The words of a biplanar luma too, whose codes stand in the high bits: neither
-    // side is told.
-    let layout = *random.pick(&[0, 0, 1]);
+    // side is told, and nearly all of them count as the largest code.
+    let layout = *random.pick(&[0, 0, 0, 0, 0, 1]);
     let contents = Contents::picture(random, desk::calls::PlaneNumbers { layout, ..shape });
     Given::new(shape, length, contents)
 }
@@ -420,7 +422,7 @@ fn size(random: &mut Random) -> (u32, u32) {
 }
 
 fn spoilt(random: &mut Random) -> Blocks {
-    let given = given::random(random, 40, 40, 1);
+    let given = given::random(random, 40, 40, PLANAR);
     let samples = judge::floats(given.shape);
     let mut case = Blocks {
         given,
@@ -466,42 +468,47 @@ pub fn run(random: &mut Random) -> Result<Tally, Failure> {
         }
     });
     let refused = (0..8_000).map(move |_| spoilt(&mut for_spoilt));
-    // Ten bits that stand in the high bits of a word: read as it stands, it goes
-    // right by two, and 0 is kept of it.
-    let high = std::iter::once(Blocks {
-        given: Given::new(
-            read::numbers(1, 1, 10, 2, 0),
-            2,
-            Contents::Listed(vec![0x00, 0x0C]),
-        ),
-        store: Store::Listed(vec![0]),
-        room: 1,
-        parity: 0,
-        total: true,
-    });
     let least = Least {
         accepted: 20_000,
         refused: 4_000,
     };
-    Tally::of(NAME, least, high.chain(others).chain(large).chain(refused))
+    let all = smallest().chain(others).chain(large).chain(refused);
+    Tally::of(NAME, least, all)
+}
+
+/// One sample of ten bits, against a kept 0, 246 and 247. Also one whose ten bits
+/// stand in the high bits of a word, as a biplanar luma's do: the word is above
+/// 1,023, counts as that, and 255 is kept of it.
+fn smallest() -> impl Iterator<Item = Blocks> {
+    let words = read::WORDS.into_iter().chain([0x0C00]);
+    words.flat_map(|word| {
+        [0, 246, 247].map(|then| Blocks {
+            given: read::one_sample(word),
+            store: Store::Listed(vec![then]),
+            room: 1,
+            parity: 0,
+            total: true,
+        })
+    })
 }
 
 /// Answers of small planes that the Rust itself confirms, without an end; one in
 /// four has something wrong.
 pub(crate) fn answers(mut random: Random) -> impl Iterator<Item = Answer> {
-    std::iter::repeat_with(move || {
-        let case = if random.one_in(4) {
-            spoilt(&mut random)
-        } else {
-            let (width, height) = size(&mut random);
-            let given = shaped(&mut random, width.min(50), height.min(20));
-            right(&mut random, given)
-        };
+    let others = std::iter::repeat_with(move || {
+        if random.one_in(4) {
+            return spoilt(&mut random);
+        }
+        let (width, height) = size(&mut random);
+        let given = shaped(&mut random, width.min(50), height.min(20));
+        right(&mut random, given)
+    });
+    let answer = |case: Blocks| {
         let then = case.store();
         let (number, counts) = case.wanted(&then);
         if let Some(counts) = counts {
             let below = Below {
-                luma: case.given.plane(),
+                luma: case.given.fed(),
                 depth: case.given.shape.depth,
                 then: &then,
                 parity: case.parity,
@@ -522,8 +529,28 @@ pub(crate) fn answers(mut random: Random) -> impl Iterator<Item = Answer> {
             .count(counts.map(|(busy, _)| busy))
             .count(counts.map(|(_, total)| total))
             .slice(&case.given.plane().data)
-            .slice(&then);
+            .slice(&then)
+            .reads(case.strays());
         Some(answer)
-    })
-    .flatten()
+    };
+    smallest().step_by(2).chain(others).filter_map(answer)
+}
+
+#[cfg(test)]
+mod tests {
+    use super::{film, smallest};
+
+    /// By the rules: of ten bits 1,022 and 1,023 are kept as 255, and so is every
+    /// word above. That is more than 8 from 0 and 246, and 8 from 247.
+    #[test]
+    fn a_code_past_the_largest_is_kept_as_255() {
+        let cases: Vec<_> = smallest().collect();
+        assert_eq!(cases.len(), 7 * 3);
+        for (at, case) in cases.iter().enumerate() {
+            let kept = film::kept_of(case.given.fed(), case.given.shape);
+            assert_eq!(kept, [255], "{case:?}");
+            let busy = u64::from(at % 3 < 2);
+            assert_eq!(case.wanted(&case.store()), (0, Some((busy, 1))), "{case:?}");
+        }
+    }
 }

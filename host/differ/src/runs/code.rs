@@ -6,6 +6,7 @@ use crate::case::{Case, Difference, Failure, Least, Tally};
 use crate::judge;
 use crate::lent::one_place;
 use crate::random::Random;
+use crate::stray::Strays;
 
 pub const NAME: &str = "code";
 
@@ -40,6 +41,10 @@ impl Case for Code {
     fn smaller(&self) -> Vec<Self> {
         self.0.smaller().into_iter().map(Self).collect()
     }
+
+    fn strays(&self) -> Strays {
+        self.0.strays()
+    }
 }
 
 pub fn run(random: &mut Random) -> Result<Tally, Failure> {
@@ -58,4 +63,16 @@ pub(crate) fn answers(random: Random) -> impl Iterator<Item = Answer> {
         let number = wanted.err().unwrap_or(0);
         case.0.answer("code", number).code(wanted.ok())
     })
+}
+
+#[cfg(test)]
+mod tests {
+    use super::{Code, read};
+
+    /// Of ten bits each, by the rules.
+    #[test]
+    fn a_code_past_the_largest_is_the_largest() {
+        let codes: Vec<_> = read::smallest().map(|asked| Code(asked).wanted()).collect();
+        assert_eq!(codes, [1023, 1022, 1023, 1023, 1023, 1023].map(Ok));
+    }
 }

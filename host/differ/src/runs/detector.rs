@@ -15,14 +15,17 @@ use desk::calls::PlaneNumbers;
 use oracle::video::telecine::Detector;
 
 use super::film::{
-    Film, Look, PATTERN, SYMBOLS, Seen, Shown, Symbol, cadence_number, grid_of, listed,
+    Film, Look, PATTERN, SYMBOLS, Seen, Shown, Shows, Symbol, cadence_number, grid_of, listed,
     parity_named,
 };
+use super::read;
 use crate::answers::{Answer, FILL, STATE_ROOM, STORE_ROOM};
 use crate::case::{Case, Difference, Failure, Least, Tally, same, smaller_numbers};
+use crate::given;
 use crate::judge;
 use crate::judge::films::{self, MOST_FRAMES, STATE};
 use crate::random::Random;
+use crate::stray::Strays;
 
 pub const NAME: &str = "detector";
 
@@ -118,6 +121,8 @@ struct Sides {
     taken: u64,
     /// How many calls gave each number.
     gave: [u64; 11],
+    /// The samples of the pictures that were taken.
+    strays: Strays,
 }
 
 impl Sides {
@@ -145,6 +150,7 @@ impl Sides {
             kept: 0,
             taken: 0,
             gave: [0; 11],
+            strays: Strays::default(),
         };
         sides.beside(&was)?;
         sides.asked()?;
@@ -244,6 +250,7 @@ impl Sides {
                     self.wanted_store[GUARD..][..kept.len()].copy_from_slice(kept);
                     self.kept = kept.len();
                     self.taken += 1;
+                    self.strays += shown.strays();
                     self.rust.push(frame)
                 });
                 (given, number, answer)
@@ -356,6 +363,7 @@ struct Calls {
     /// The Rust's kept frame is read from what it prints, at the end.
     printed: bool,
     gave: Cell<[u64; 11]>,
+    strays: Cell<Strays>,
 }
 
 impl fmt::Debug for Calls {
@@ -370,6 +378,7 @@ impl Calls {
             calls,
             printed: false,
             gave: Cell::default(),
+            strays: Cell::default(),
         }
     }
 
@@ -397,6 +406,7 @@ impl Case for Calls {
             sides.printed()?;
         }
         self.gave.set(sides.gave);
+        self.strays.set(sides.strays);
         Ok(0)
     }
 
@@ -437,6 +447,10 @@ impl Case for Calls {
             }
         }
     }
+
+    fn strays(&self) -> Strays {
+        self.strays.get()
+    }
 }
 
 impl Call {
@@ -449,10 +463,14 @@ impl Call {
                 store,
                 state,
             } => {
-                let mut shapes = vec![PlaneNumbers {
-                    depth: 8,
+                let shallower = [8, 9]
+                    .into_iter()
+                    .filter(|depth| *depth < shown.shape.depth);
+                let with = |depth| PlaneNumbers {
+                    depth,
                     ..shown.shape
-                }];
+                };
+                let mut shapes: Vec<PlaneNumbers> = shallower.map(with).collect();
                 for width in smaller_numbers(shown.shape.width.into()) {
                     let width = width as u32;
                     shapes.push(PlaneNumbers {
@@ -467,15 +485,11 @@ impl Call {
                         ..shown.shape
                     });
                 }
-                if shown.shape.depth == 8 {
-                    shapes.remove(0);
-                }
                 for mut shape in shapes {
                     shape.stride = judge::row(shape) as u32;
-                    let shown = Shown::whole(shape, shown.looks, shown.noise);
                     found.push(Self::Push {
                         parity: *parity,
-                        shown: Rc::new(shown),
+                        shown: Rc::new(shown.reshaped(shape)),
                         store: *store,
                         state: *state,
                     });
@@ -538,19 +552,13 @@ fn absent(parity: u8) -> Call {
 
 const RESET: Call = Call::Reset { state: ALL };
 
-fn planar(width: u32, height: u32) -> PlaneNumbers {
-    PlaneNumbers {
-        width,
-        height,
-        depth: 8,
-        stride: width,
-        layout: 0,
-    }
-}
-
+/// Of 8 bits, or of ten where a field is 255: there most words are past 1,023.
 fn flat(width: u32, height: u32, top: u8, bottom: u8) -> Rc<Shown> {
+    let deep = top == 255 || bottom == 255;
+    let (depth, bytes) = if deep { (10, 2) } else { (8, 1) };
     let looks = [Look::flat(top), Look::flat(bottom)];
-    Rc::new(Shown::whole(planar(width, height), looks, 0))
+    let shape = read::numbers(width, height, depth, width * bytes, 0);
+    Rc::new(Shown::whole(shape, Shows::Looks(looks, 0)))
 }
 
 /// Every sequence of `length` calls of the alphabet, each after `before`.
@@ -569,8 +577,8 @@ fn every(before: Vec<Call>, alphabet: Vec<Call>, length: u32) -> impl Iterator<I
 /// From a fresh detector on: pictures that repeat one field or none, led by
 /// either, of another size, of one row; counts; a reset; a refused picture.
 fn alphabet() -> Vec<Call> {
-    let [one, other, third] = [(0, 0), (0, 90), (90, 90)].map(|(a, b)| flat(64, 16, a, b));
-    let narrow = flat(48, 16, 0, 0);
+    let [one, other, third] = [(0, 0), (0, 255), (255, 255)].map(|(a, b)| flat(64, 16, a, b));
+    let narrow = flat(48, 16, 255, 255);
     let row = flat(64, 1, 0, 0);
     vec![
         push(0, &one),
@@ -630,7 +638,7 @@ fn locking_after(kept: Call, step: usize) -> Vec<Call> {
 /// Pictures after that: as it was, with a field or both moved, one row or one
 /// column more or less, led by the other field.
 fn alphabet_of_pictures() -> Vec<Call> {
-    let moved = [(0, 0), (90, 0), (0, 90), (90, 90)];
+    let moved = [(0, 0), (255, 0), (0, 255), (90, 90)];
     let mut all: Vec<Call> = moved
         .into_iter()
         .map(|(top, bottom)| push(0, &flat(64, 32, top, bottom)))
@@ -769,11 +777,7 @@ fn shape(random: &mut Random) -> PlaneNumbers {
     let mut shape = PlaneNumbers {
         width,
         height,
-        depth: if random.one_in(3) {
-            8
-        } else {
-            random.between(9, 16) as u32
-        },
+        depth: given::depth(random),
         stride: 0,
         layout: 0,
     };
@@ -781,17 +785,32 @@ fn shape(random: &mut Random) -> PlaneNumbers {
     shape
 }
 
+/// A level that differs by more than 8. Often 255, since only there the words of a
+/// picture can have stray bits.
+fn next_level(random: &mut Random, level: u8) -> u8 {
+    if level < 247 && !random.one_in(4) {
+        255
+    } else {
+        level.wrapping_add(*random.pick(&[9, 100, 128, 247]))
+    }
+}
+
 /// The field of the next frame: as it was or nearly so, or moved, in all blocks
-/// or in just as few as count.
+/// or in just as few as count. At 255 it stays longer than elsewhere.
 fn next_look(random: &mut Random, look: Look, moved: bool) -> Look {
+    let leaves = if look.level == 255 {
+        random.one_in(3)
+    } else {
+        !random.one_in(3)
+    };
     let level = if look.blocks > 0 && random.one_in(2) {
         // What was more in some blocks is gone.
         return Look {
             blocks: if moved { 0 } else { look.blocks.min(1) },
             ..look
         };
-    } else if moved && random.one_in(2) {
-        look.level.wrapping_add(*random.pick(&[9, 100, 128, 247]))
+    } else if moved && leaves {
+        next_level(random, look.level)
     } else {
         look.level
     };
@@ -820,7 +839,7 @@ fn shown_film(
     let mut film = Film::new(random);
     let mut calls = Vec::new();
     let mut shape = shape_of(random);
-    let mut looks = [Look::flat(20), Look::flat(120)];
+    let mut looks = [Look::flat(20), Look::flat(255)];
     let mut late = Lateness::default();
     let counted = random.one_in(3);
     let restless = *random.pick(&[20, 60, 400]);
@@ -842,7 +861,8 @@ fn shown_film(
         looks[trailing] = next_look(random, looks[trailing], second);
         let more = *random.pick(&[0, 0, 0, 1, 64]);
         let needed = judge::needed(shape) as usize;
-        let shown = Rc::new(Shown::new(shape, needed + more, looks, random.next()));
+        let shows = Shows::Looks(looks, random.next());
+        let shown = Rc::new(Shown::new(shape, needed + more, shows));
         calls.push(push(seen.first, &shown));
         if random.one_in(restless) {
             match random.below(5) {
@@ -850,7 +870,7 @@ fn shown_film(
                     0 => shape = shape_of(random),
                     1 => shape.height = (shape.height + random.below(3) as u32).max(2) - 1,
                     2 => shape.width = (shape.width + random.below(3) as u32).max(2) - 1,
-                    _ => shape.depth = random.between(8, 16) as u32,
+                    _ => shape.depth = given::depth(random),
                 },
                 1 => calls.push(RESET),
                 2 => late.start(random, &mut calls),
@@ -869,7 +889,7 @@ fn shown_film(
 /// wrong, or two of them.
 fn refused_push(random: &mut Random, first: u8, shown: &Rc<Shown>) -> Call {
     let samples = judge::floats(shown.shape);
-    let mut wrong = Shown::new(shown.shape, shown.length, shown.looks, shown.noise);
+    let mut wrong = shown.again();
     let (mut parity, mut store, mut state) = (first, ALL, ALL);
     for _ in 0..random.between(1, 2) {
         match random.below(8) {
@@ -906,8 +926,21 @@ pub fn run(random: &mut Random) -> Result<Tally, Failure> {
         accepted: 1_400_000,
         refused: 90_000,
     };
-    let all = fresh.chain(locked).chain(pictured).chain(stills());
-    Tally::of(NAME, least, all.chain(counts).chain(pictures))
+    let all = smallest().chain(fresh).chain(locked).chain(pictured);
+    let all = all.chain(stills()).chain(counts).chain(pictures);
+    Tally::of(NAME, least, all)
+}
+
+/// A picture of one sample, of ten bits: 255 is kept of it.
+fn smallest() -> impl Iterator<Item = Calls> {
+    read::WORDS.into_iter().map(|word| {
+        let shape = read::numbers(1, 1, 10, 2, 0);
+        let shown = Shown::whole(shape, Shows::Listed(word.to_le_bytes().to_vec()));
+        Calls {
+            printed: true,
+            ..Calls::new(vec![push(0, &Rc::new(shown))])
+        }
+    })
 }
 
 /// Sequences of symbols, numbered, of one length.
@@ -992,7 +1025,7 @@ pub fn many(random: &mut Random) -> Result<Tally, Failure> {
     let counts = (0..5_400).map(move |_| measured_film(&mut for_measured, 10_000));
     tally.add(Tally::of(NAME, least(51_000_000), counts)?);
     let pictures = (0..5_000).map(move |_| shown_film(&mut for_shown, 200, shape));
-    tally.add(Tally::of(NAME, least(900_000), pictures)?);
+    tally.add(Tally::of(NAME, least(900_000), pictures)?.with_strays()?);
     Ok(tally)
 }
 
@@ -1075,7 +1108,11 @@ impl Recorder {
                     .byte(cadence)
                     .slice(shown.lent())
                     .slice(&self.store[..store]);
-                self.found.push(answer);
+                let strays = match number {
+                    0 => shown.strays(),
+                    _ => Strays::default(),
+                };
+                self.found.push(answer.reads(strays));
             }
             Call::Measured {
                 parity,
@@ -1187,7 +1224,7 @@ fn plain_film(random: &mut Random, length: usize) -> Calls {
     let mut film = Film::new(random);
     let mut calls = Vec::new();
     let mut shape = small_shape(random);
-    let mut looks = [Look::flat(20), Look::flat(120)];
+    let mut looks = [Look::flat(20), Look::flat(255)];
     while calls.len() < length {
         let seen = film.next(random);
         let Some(symbol) = seen.symbol.filter(|_| !random.one_in(12)) else {
@@ -1198,7 +1235,7 @@ fn plain_film(random: &mut Random, length: usize) -> Calls {
         for (field, moved) in [leading, trailing].into_iter().zip(symbol.usual()) {
             let Look { level, .. } = looks[field];
             looks[field] = if moved > 0 {
-                Look::flat(level.wrapping_add(*random.pick(&[9, 100, 128, 247])))
+                Look::flat(next_level(random, level))
             } else {
                 Look {
                     level,
@@ -1210,7 +1247,8 @@ fn plain_film(random: &mut Random, length: usize) -> Calls {
         }
         let needed = judge::needed(shape) as usize;
         let more = *random.pick(&[0, 0, 1]);
-        let shown = Shown::new(shape, needed + more, looks, random.next());
+        let shows = Shows::Looks(looks, random.next());
+        let shown = Shown::new(shape, needed + more, shows);
         calls.push(push(seen.first, &Rc::new(shown)));
         if random.one_in(40) {
             shape = small_shape(random);
@@ -1222,7 +1260,8 @@ fn plain_film(random: &mut Random, length: usize) -> Calls {
 /// Films of counts and of pictures with splices, stills, resets, changes of the
 /// leading field and of the size, and refused calls: of each kind those in which
 /// a third of the frames or more belong to a cadence, and a few others. Then a
-/// lock from every step, ended by the twelfth still, and short runs of any calls.
+/// lock from every step, ended by the twelfth still, the smallest pictures, and
+/// short runs of any calls.
 pub(crate) fn answers(mut random: Random, store: &mut Vec<u8>) -> Vec<Answer> {
     let random = &mut random;
     let mut recorder = Recorder::new();
@@ -1251,6 +1290,9 @@ pub(crate) fn answers(mut random: Random, store: &mut Vec<u8>) -> Vec<Answer> {
         calls.extend((0..12).map(|_| measured(0, Symbol::Still)));
         recorder.film(random, &Calls::new(calls));
     }
+    for film in smallest() {
+        recorder.film(random, &film);
+    }
     let letters = alphabet();
     for _ in 0..14 {
         let calls = (0..6).map(|_| random.pick(&letters).clone()).collect();
@@ -1258,4 +1300,76 @@ pub(crate) fn answers(mut random: Random, store: &mut Vec<u8>) -> Vec<Answer> {
     }
     mem::swap(&mut recorder.store, store);
     recorder.found
+}
+
+#[cfg(test)]
+mod tests {
+    use super::{ALL, Call, Calls, Random, SYMBOLS, Shown, Symbol, shape, shown_film};
+    use crate::runs::busy::by_reading;
+
+    /// What a frame shows, by docs/RULES.md, "Blocks and symbols": busy and all
+    /// blocks of the leading field, busy ones of the trailing.
+    fn symbol_of((first, blocks): (u64, u64), second: u64) -> Symbol {
+        let moving = (blocks / 128).max(4);
+        let quiet = (blocks / 1024).max(1);
+        if first <= quiet && second >= moving {
+            Symbol::RepeatFirst
+        } else if second <= quiet && first >= moving {
+            Symbol::RepeatSecond
+        } else if first < moving && second < moving {
+            Symbol::Still
+        } else {
+            Symbol::Moved
+        }
+    }
+
+    /// What the pictures of a film show against those before them, where they
+    /// have the same size and leading field.
+    fn symbols(film: &Calls) -> Vec<Symbol> {
+        let taken: Vec<_> = film
+            .calls
+            .iter()
+            .filter_map(|call| match call {
+                Call::Push {
+                    parity,
+                    shown,
+                    store: ALL,
+                    state: ALL,
+                } if *parity < 2 && shown.is_whole() => Some((*parity, shown)),
+                _ => None,
+            })
+            .collect();
+        let mut found = Vec::new();
+        for pair in taken.windows(2) {
+            let [(before, then), (parity, now)] = pair else {
+                unreachable!("two of them");
+            };
+            let size = |shown: &Shown| (shown.shape.width, shown.shape.height);
+            let (width, height) = size(now);
+            if before != parity || size(then) != (width, height) || height == 1 {
+                continue;
+            }
+            let counts = |parity| {
+                let (now, then) = (now.rust(0).1, then.rust(0).1);
+                by_reading(now, then, width as usize, height as usize, parity)
+            };
+            found.push(symbol_of(counts(*parity), counts(1 - *parity).0));
+        }
+        found
+    }
+
+    /// Stray bits stand where 255 is kept, and so leave what a picture shows.
+    #[test]
+    fn pictures_show_every_symbol() {
+        let mut random = Random::new(3);
+        let mut counts = [0; 4];
+        for _ in 0..60 {
+            for symbol in symbols(&shown_film(&mut random, 100, shape)) {
+                let at = SYMBOLS.iter().position(|known| *known == symbol);
+                counts[at.expect("one of the four")] += 1;
+            }
+        }
+        let all: u32 = counts.iter().sum();
+        assert!(counts.iter().all(|count| 10 * count > all), "{counts:?}");
+    }
 }

@@ -7,10 +7,11 @@ use oracle::video::filter;
 use super::read::{self, Asked};
 use crate::answers::Answer;
 use crate::case::{Case, Difference, Failure, Least, Tally};
-use crate::given::{self, Contents};
+use crate::given::{self, Contents, LAYOUTS};
 use crate::judge;
 use crate::lent::one_place;
 use crate::random::Random;
+use crate::stray::Strays;
 
 pub const NAME: &str = "edge";
 
@@ -41,6 +42,10 @@ impl Case for Edge {
     fn smaller(&self) -> Vec<Self> {
         self.0.smaller().into_iter().map(Self).collect()
     }
+
+    fn strays(&self) -> Strays {
+        self.0.strays()
+    }
 }
 
 /// Planes of the random part, and coordinates asked of each.
@@ -54,7 +59,7 @@ pub fn run(random: &mut Random) -> Result<Tally, Failure> {
     let tiny = read::every_tiny_plane(Random::new(random.next()));
     let large = read::large_planes(Random::new(random.next()), 500, OUTSIDE_IN);
     let others = (0..PLANES).flat_map(|_| {
-        let mut given = given::random(random, 40, 20, 4);
+        let mut given = given::random(random, 40, 20, LAYOUTS);
         given.contents = Contents::picture(random, given.shape);
         read::asked_of(random, Rc::new(given), OF_EACH, OUTSIDE_IN)
     });
@@ -62,19 +67,19 @@ pub fn run(random: &mut Random) -> Result<Tally, Failure> {
         accepted: 230_000,
         refused: 150_000,
     };
-    Tally::of(NAME, least, tiny.chain(large).chain(others).map(Edge))
+    let all = read::smallest().chain(tiny).chain(large).chain(others);
+    Tally::of(NAME, least, all.map(Edge))
 }
 
 /// Answers of small planes with pictures in which directions tie, without an
 /// end.
 pub(crate) fn answers(mut random: Random) -> impl Iterator<Item = Answer> {
-    std::iter::repeat_with(move || {
-        let mut given = given::random(&mut random, 16, 8, 4);
+    let others = std::iter::repeat_with(move || {
+        let mut given = given::random(&mut random, 16, 8, LAYOUTS);
         given.contents = Contents::picture(&mut random, given.shape);
         read::asked_of(&mut random, Rc::new(given), 2, OUTSIDE_IN)
-    })
-    .flatten()
-    .map(|asked| {
+    });
+    read::smallest().chain(others.flatten()).map(|asked| {
         let case = Edge(asked);
         let wanted = case.wanted();
         let number = wanted.err().unwrap_or(0);

@@ -13,6 +13,7 @@ use oracle::video::filter::Samples;
 use crate::judge;
 use crate::lent::Between;
 use crate::random::Random;
+use crate::stray::Strays;
 
 /// The field of a code that the judge lets pass.
 pub fn parity_named(code: u8) -> Parity {
@@ -57,7 +58,8 @@ pub fn listed(shape: PlaneNumbers) -> [u32; 4] {
     [shape.width, shape.height, shape.depth, shape.stride]
 }
 
-/// A frame as the Rust takes it: nothing but luma, and the field that leads.
+/// A frame as the Rust takes it: nothing but luma, which is cut where codes can
+/// be past the largest, and the field that leads.
 pub fn frame_of(luma: Plane, depth: u32, first: u8) -> Frame {
     Frame {
         format: Format {
@@ -72,21 +74,22 @@ pub fn frame_of(luma: Plane, depth: u32, first: u8) -> Frame {
     }
 }
 
-/// The frame that a store keeps, row by row: of each code what is left after
-/// depth - 8 bits, and of that the lowest 8.
-pub fn kept_of(plane: &Plane, shape: PlaneNumbers) -> Vec<u8> {
-    let samples = Samples::new(plane, shape.depth as u8);
+/// The frame that a store keeps, row by row, of a plane that is cut: each code
+/// without its lowest depth - 8 bits.
+pub fn kept_of(cut: &Plane, shape: PlaneNumbers) -> Vec<u8> {
+    let samples = Samples::new(cut, shape.depth as u8);
     let mut kept = Vec::with_capacity(shape.width as usize * shape.height as usize);
     for y in 0..shape.height as usize {
         for x in 0..shape.width as usize {
-            kept.push((samples.code(x, y) >> (shape.depth - 8)) as u8);
+            let code = samples.code(x, y) >> (shape.depth - 8);
+            kept.push(u8::try_from(code).expect("eight bits are left of a code that is cut"));
         }
     }
     kept
 }
 
 /// One field of a picture: a level, and so much more than it in the first
-/// samples of the first blocks.
+/// samples of the first blocks, or so much less where more is too much.
 #[derive(Debug, Clone, Copy, PartialEq, Eq)]
 pub struct Look {
     pub level: u8,
@@ -110,31 +113,47 @@ impl Look {
         let block = x / 16 + width.div_ceil(16) * (row / 8);
         let within = x % 16 + 16 * (row % 8);
         if block < self.blocks && within < self.samples {
-            self.level.wrapping_add(self.more)
+            let more = self.level.checked_add(self.more);
+            more.unwrap_or(self.level.wrapping_sub(self.more))
         } else {
             self.level
         }
     }
 }
 
+/// What a picture that is put to a detector shows.
+#[derive(Debug, Clone)]
+pub enum Shows {
+    /// Its fields, top and bottom, with noise from this seed: in the padding, and
+    /// below the kept eight bits. Where 255 is kept, the word is mostly one past
+    /// the largest code, any of them.
+    Looks([Look; 2], u64),
+    /// These bytes, then zeros.
+    Listed(Vec<u8>),
+}
+
 /// A picture that is put to a detector: the planar shape that is said of it, which
-/// need not be within the bounds, a length, which need not suffice, and its
-/// fields, top and bottom. Padding, and bits below the kept eight or above the
-/// depth, are noise.
+/// need not be within the bounds, a length, which need not suffice, and what it
+/// shows.
 pub struct Shown {
     pub shape: PlaneNumbers,
     pub length: usize,
-    pub looks: [Look; 2],
-    pub noise: u64,
+    shows: Shows,
     /// Made when first asked for.
     sides: OnceCell<Sides>,
 }
 
 struct Sides {
     rattle: Between,
-    /// Where the shape is within the bounds and the length suffices: the same
-    /// for the Rust, led by either field, and what is kept of it.
-    rust: Option<([Frame; 2], Vec<u8>)>,
+    rust: Option<Taken>,
+}
+
+/// Of a whole picture.
+struct Taken {
+    /// The frame as the Rust is fed it, led by either field: its luma is cut.
+    frames: [Frame; 2],
+    kept: Vec<u8>,
+    strays: Strays,
 }
 
 impl fmt::Debug for Shown {
@@ -142,35 +161,48 @@ impl fmt::Debug for Shown {
         let Self {
             shape,
             length,
-            looks,
-            noise,
+            shows,
             ..
         } = self;
-        write!(
-            f,
-            "Shown {{ {shape:?}, length: {length}, looks: {looks:?}, noise: {noise} }}"
-        )
+        write!(f, "Shown {{ {shape:?}, length: {length}, {shows:?} }}")
     }
 }
 
 impl Shown {
-    pub fn new(shape: PlaneNumbers, length: usize, looks: [Look; 2], noise: u64) -> Self {
+    pub fn new(shape: PlaneNumbers, length: usize, shows: Shows) -> Self {
         Self {
             shape,
             length,
-            looks,
-            noise,
+            shows,
             sides: OnceCell::new(),
         }
     }
 
     /// Just as long as it needs to be.
-    pub fn whole(shape: PlaneNumbers, looks: [Look; 2], noise: u64) -> Self {
-        Self::new(shape, judge::needed(shape) as usize, looks, noise)
+    pub fn whole(shape: PlaneNumbers, shows: Shows) -> Self {
+        Self::new(shape, judge::needed(shape) as usize, shows)
+    }
+
+    /// The same in another shape, just as long as that needs it to be.
+    pub fn reshaped(&self, shape: PlaneNumbers) -> Self {
+        Self::whole(shape, self.shows.clone())
+    }
+
+    /// The same once more, to be changed.
+    pub fn again(&self) -> Self {
+        Self::new(self.shape, self.length, self.shows.clone())
     }
 
     fn bytes(&self) -> Vec<u8> {
-        let mut random = Random::new(self.noise);
+        let (looks, noise) = match &self.shows {
+            Shows::Looks(looks, noise) => (looks, *noise),
+            Shows::Listed(bytes) => {
+                let mut bytes = bytes.clone();
+                bytes.resize(self.length, 0);
+                return bytes;
+            }
+        };
+        let mut random = Random::new(noise);
         let mut bytes = random.bytes(self.length);
         let PlaneNumbers {
             width,
@@ -185,7 +217,7 @@ impl Shown {
         let size = if depth > 8 { 2 } else { 1 };
         for y in 0..height {
             for x in 0..width {
-                let kept = u16::from(self.looks[(y % 2) as usize].at(width, x, y / 2));
+                let kept = u16::from(looks[(y % 2) as usize].at(width, x, y / 2));
                 let at = y as usize * stride as usize + x as usize * size;
                 let Some(place) = bytes.get_mut(at..at + size) else {
                     return bytes;
@@ -195,12 +227,21 @@ impl Shown {
                     continue;
                 }
                 let noise = u16::from_le_bytes([place[0], place[1]]);
-                let own = 0xFF << (depth - 8);
-                let code = kept << (depth - 8) | noise & !own;
-                place.copy_from_slice(&code.to_le_bytes());
+                let past = u32::from(noise) >= 1 << depth;
+                let word = if kept == 255 && past {
+                    noise
+                } else {
+                    kept << (depth - 8) | noise & ((1 << (depth - 8)) - 1)
+                };
+                place.copy_from_slice(&word.to_le_bytes());
             }
         }
         bytes
+    }
+
+    /// Whether its shape is within the bounds and its length suffices.
+    pub fn is_whole(&self) -> bool {
+        judge::in_bounds(self.shape) && self.length as u64 >= judge::needed(self.shape)
     }
 
     fn sides(&self) -> &Sides {
@@ -208,16 +249,20 @@ impl Shown {
             let bytes = self.bytes();
             let rattle = Between::noise(&bytes);
             let shape = self.shape;
-            let right = judge::in_bounds(shape) && self.length as u64 >= judge::needed(shape);
-            let rust = right.then(|| {
+            let rust = self.is_whole().then(|| {
+                let strays = Strays::of_plane(&bytes, shape);
                 let plane = Plane {
                     data: bytes,
                     stride: shape.stride as usize,
                     width: shape.width as usize,
                     height: shape.height as usize,
                 };
-                let frames = [0, 1].map(|first| frame_of(plane.clone(), shape.depth, first));
-                (frames, kept_of(&plane, shape))
+                let cut = oracle::cut(plane, shape.depth);
+                Taken {
+                    frames: [0, 1].map(|first| frame_of(cut.clone(), shape.depth, first)),
+                    kept: kept_of(&cut, shape),
+                    strays,
+                }
             });
             Sides { rattle, rust }
         })
@@ -227,11 +272,20 @@ impl Shown {
         self.sides().rattle.lent()
     }
 
-    /// The frame as the Rust takes it, and the bytes that are kept of it; only
+    fn taken(&self) -> &Taken {
+        self.sides().rust.as_ref().expect("the judge let it pass")
+    }
+
+    /// The frame as the Rust is fed it, and the bytes that are kept of it; only
     /// of a picture that the judge lets pass.
     pub fn rust(&self, first: u8) -> (&Frame, &[u8]) {
-        let (frames, kept) = self.sides().rust.as_ref().expect("the judge let it pass");
+        let Taken { frames, kept, .. } = self.taken();
         (&frames[usize::from(first)], kept)
+    }
+
+    /// All its samples; of such a picture too.
+    pub fn strays(&self) -> Strays {
+        self.taken().strays
     }
 }
 

@@ -18,10 +18,11 @@ use super::to_rgb::{self, Nine};
 use super::trio::{self, Draft, quality_named};
 use crate::answers::Answer;
 use crate::case::{Case, Difference, Failure, Least, Tally, same, smaller_numbers};
-use crate::given::{Contents, Given};
+use crate::given::{self, Contents, Given, LAYOUTS};
 use crate::judge::{self, Lent};
 use crate::lent::{Guarded, PATTERNS};
 use crate::random::Random;
+use crate::stray::Strays;
 
 pub const NAME: &str = "picture";
 
@@ -331,6 +332,14 @@ impl Case for Picture {
         }
         found
     }
+
+    fn strays(&self) -> Strays {
+        let mut all = Strays::default();
+        for given in self.frames.iter().flat_map(|frame| &frame.0) {
+            all += given.strays();
+        }
+        all
+    }
 }
 
 /// How the planes of a frame stand: each for itself, luma beside shared chroma,
@@ -339,7 +348,7 @@ fn layouts(random: &mut Random) -> [u32; 3] {
     match random.below(5) {
         0 | 1 => [0, 0, 0],
         2 | 3 => [1, 2, 3],
-        _ => [0; 3].map(|_| random.below(4) as u32),
+        _ => [0; 3].map(|_| *random.pick(LAYOUTS)),
     }
 }
 
@@ -391,11 +400,7 @@ fn size(random: &mut Random) -> (u32, u32, u32) {
         1 => *random.pick(&[7, 8, 9, 15, 16, 17, 31, 32, 33]),
         _ => random.between(1, 40) as u32,
     };
-    let depth = if random.one_in(3) {
-        8
-    } else {
-        random.between(9, 16) as u32
-    };
+    let depth = given::depth(random);
     (side(random), side(random), depth)
 }
 
@@ -549,7 +554,7 @@ const LARGE: [(u32, u32, u32, [u32; 3]); 8] = [
     (640, 36, 8, [0, 0, 0]),
     (353, 65, 10, [1, 2, 3]),
     (130, 97, 12, [0, 2, 1]),
-    (720, 480, 8, [0, 0, 0]),
+    (720, 480, 10, [0, 0, 0]),
 ];
 
 pub fn run(random: &mut Random) -> Result<Tally, Failure> {
@@ -586,19 +591,45 @@ pub fn run(random: &mut Random) -> Result<Tally, Failure> {
         accepted: 5_000,
         refused: 3_000,
     };
-    Tally::of(
-        NAME,
-        least,
-        outputs.chain(large).chain(others).chain(refused),
-    )
+    let all = smallest().chain(outputs).chain(large);
+    Tally::of(NAME, least, all.chain(others).chain(refused))
+}
+
+/// Every quality of one pixel, of ten bits. Chroma is 512, or likewise.
+fn smallest() -> impl Iterator<Item = Picture> {
+    let colours = Colours::Made {
+        matrix: Matrix::Bt709,
+        depth: 10,
+        limited: false,
+    };
+    let output = OutputNumbers {
+        field: 1,
+        weave: 2,
+        earlier: 0,
+        later: 2,
+    };
+    let pixels = read::WORDS.map(|word| [[word, 512, 512], [word; 3]]);
+    pixels.into_iter().flatten().flat_map(move |words| {
+        let frame = Frame(words.map(|word| Rc::new(read::one_sample(word))));
+        (0..4).map(move |quality| Picture {
+            quality,
+            output,
+            colours,
+            frames: [frame.clone(), frame.clone(), frame.clone()],
+            out: 4,
+        })
+    })
 }
 
 /// Answers of small pictures, without an end; one in four has something wrong.
 /// The colours are the Rust's own, not adjusted, or random.
 pub(crate) fn answers(mut random: Random) -> impl Iterator<Item = Answer> {
+    let mut smallest = smallest().step_by(7);
     std::iter::repeat_with(move || {
         let random = &mut random;
-        let mut case = if random.one_in(4) {
+        let mut case = if let Some(smallest) = smallest.next() {
+            smallest
+        } else if random.one_in(4) {
             spoilt(random)
         } else {
             let (width, height, depth) = size(random);
@@ -631,6 +662,7 @@ pub(crate) fn answers(mut random: Random) -> impl Iterator<Item = Answer> {
                 .numbers(read::listed(given.shape))
                 .slice(&given.plane().data);
         }
-        answer.gives(number).output(&written, case.out)
+        let answer = answer.gives(number).output(&written, case.out);
+        answer.reads(case.strays())
     })
 }

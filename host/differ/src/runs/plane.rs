@@ -3,13 +3,14 @@
 use oracle::video::Deinterlace;
 use oracle::video::filter::{self, Samples};
 
-use super::read::numbers;
+use super::read::{self, numbers};
 use super::trio::{self, Trio, quality_named};
 use crate::answers::Answer;
 use crate::case::{Case, Difference, Failure, Least, Tally, same, smaller_numbers};
 use crate::judge;
 use crate::lent::{Guarded, PATTERNS};
 use crate::random::Random;
+use crate::stray::Strays;
 
 pub const NAME: &str = "plane";
 
@@ -117,6 +118,10 @@ impl Case for Whole {
         }
         found
     }
+
+    fn strays(&self) -> Strays {
+        self.trio.strays()
+    }
 }
 
 /// Three planes that are right, and room for the answer or more.
@@ -171,7 +176,24 @@ pub fn run(random: &mut Random) -> Result<Tally, Failure> {
         accepted: 2_400,
         refused: 2_500,
     };
-    Tally::of(NAME, least, wide.chain(others).chain(refused))
+    let smallest = smallest();
+    Tally::of(
+        NAME,
+        least,
+        smallest.chain(wide).chain(others).chain(refused),
+    )
+}
+
+/// Every quality of planes of one sample, of ten bits.
+fn smallest() -> impl Iterator<Item = Whole> {
+    read::WORDS.into_iter().flat_map(|word| {
+        (0..4).map(move |quality| Whole {
+            quality,
+            first: 1,
+            out: 1,
+            trio: Trio::one_sample(word),
+        })
+    })
 }
 
 /// The widest and the highest, each with a quality.
@@ -200,18 +222,20 @@ const WIDE: [(u8, [desk::calls::PlaneNumbers; 3]); 6] = [
 
 /// Answers of small planes, without an end; one in four has something wrong.
 pub(crate) fn answers(mut random: Random) -> impl Iterator<Item = Answer> {
-    std::iter::repeat_with(move || {
-        let case = if random.one_in(4) {
-            spoilt(&mut random)
-        } else {
-            let trio = trio::random(&mut random, 14, 9, true);
-            right(&mut random, trio)
-        };
+    let others = std::iter::repeat_with(move || {
+        if random.one_in(4) {
+            return spoilt(&mut random);
+        }
+        let trio = trio::random(&mut random, 14, 9, true);
+        right(&mut random, trio)
+    });
+    smallest().step_by(5).chain(others).map(|case| {
         let (number, written) = case.wanted();
         let front = Answer::of("plane").number(case.quality).number(case.first);
         case.trio
             .answer(front)
             .gives(number)
             .float_output(&written, case.out)
+            .reads(case.strays())
     })
 }

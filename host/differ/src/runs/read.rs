@@ -7,14 +7,15 @@ use oracle::video::filter::{Planes, Samples};
 
 use crate::answers::Answer;
 use crate::case::smaller_numbers;
-use crate::given::{self, Contents, Given};
+use crate::given::{self, Contents, Given, LAYOUTS};
 use crate::judge;
 use crate::random::Random;
+use crate::stray::Strays;
 
 /// The Rust's view of a plane within the bounds. The Rust itself makes the
 /// shift of a biplanar frame, so no formula of ours stands in for it.
 pub fn samples(given: &Given) -> Samples<'_> {
-    let plane = given.plane();
+    let plane = given.fed();
     let depth = given.shape.depth as u8;
     let biplanar = || Planes::biplanar(plane, plane, depth);
     match given.shape.layout {
@@ -49,6 +50,11 @@ impl Asked {
         }
         found
     }
+
+    /// The sample at the place that is asked for, or nearest to it.
+    pub fn strays(&self) -> Strays {
+        self.given.strays_at(self.x, self.y)
+    }
 }
 
 /// A negative number also leads to its opposite, never the other way.
@@ -68,7 +74,31 @@ pub fn cases(random: &mut Random, outside_in: u64) -> impl Iterator<Item = Asked
     let tiny = every_tiny_plane(own());
     let large = large_planes(own(), 2000, outside_in);
     let others = random_planes(own(), 20_000, outside_in);
-    tiny.chain(large).chain(past_sixteen_bits()).chain(others)
+    let refused = past_sixteen_bits();
+    smallest()
+        .chain(tiny)
+        .chain(large)
+        .chain(refused)
+        .chain(others)
+}
+
+/// Words of ten bits of which some have stray bits: that of the request, then the
+/// words around the largest code, and the largest word.
+pub const WORDS: [u16; 6] = [0x07FF, 0x03FE, 0x03FF, 0x0400, 0x0401, 0xFFFF];
+
+/// A plane of one sample, of ten bits, planar.
+pub fn one_sample(word: u16) -> Given {
+    let contents = Contents::Listed(word.to_le_bytes().to_vec());
+    Given::new(numbers(1, 1, 10, 2, 0), 2, contents)
+}
+
+/// The one sample of each.
+pub fn smallest() -> impl Iterator<Item = Asked> {
+    WORDS.into_iter().map(|word| Asked {
+        given: Rc::new(one_sample(word)),
+        x: 0,
+        y: 0,
+    })
 }
 
 /// Sizes at the end of 16 bits and past it.
@@ -153,12 +183,12 @@ const OF_EACH: u64 = 48;
 /// Random planes, `OF_EACH` coordinates of each.
 fn random_planes(mut random: Random, planes: u64, outside_in: u64) -> impl Iterator<Item = Asked> {
     (0..planes).flat_map(move |_| {
-        let given = Rc::new(given::random(&mut random, 40, 12, 4));
+        let given = Rc::new(given::random(&mut random, 40, 12, LAYOUTS));
         asked_of(&mut random, given, OF_EACH, outside_in)
     })
 }
 
-/// The largest planes of either kind, one with the largest stride, and two of
+/// The largest planes of either kind, one with the largest stride, and three of
 /// usual sizes. Lent one after the other, as the largest has 35 million bytes.
 pub fn large_planes(
     mut random: Random,
@@ -174,7 +204,7 @@ pub fn large_planes(
 }
 
 /// Each with the bytes that it lacks.
-const LARGE: [(PlaneNumbers, usize); 8] = [
+const LARGE: [(PlaneNumbers, usize); 9] = [
     (numbers(8192, 4352, 8, 8192, 0), 0),
     (numbers(8192, 256, 16, 65_536, 2), 0),
     (numbers(8192, 256, 16, 65_536, 2), 1),
@@ -182,6 +212,7 @@ const LARGE: [(PlaneNumbers, usize); 8] = [
     (numbers(8191, 5, 9, 32_765, 3), 0),
     (numbers(1, 4352, 9, 3, 1), 0),
     (numbers(1920, 1080, 10, 3840, 1), 0),
+    (numbers(1280, 720, 12, 2561, 0), 0),
     (numbers(720, 576, 8, 721, 0), 0),
 ];
 
@@ -247,13 +278,13 @@ pub fn listed(shape: PlaneNumbers) -> [u32; 5] {
     [width, height, depth, stride, layout]
 }
 
-/// What is asked of small planes, without an end.
+/// What is asked of small planes, the smallest first, without an end.
 pub fn small(mut random: Random, outside_in: u64) -> impl Iterator<Item = Asked> {
-    std::iter::repeat_with(move || {
-        let given = Rc::new(given::random(&mut random, 12, 8, 4));
+    let others = std::iter::repeat_with(move || {
+        let given = Rc::new(given::random(&mut random, 12, 8, LAYOUTS));
         asked_of(&mut random, given, 2, outside_in)
-    })
-    .flatten()
+    });
+    smallest().chain(others.flatten())
 }
 
 impl Asked {
@@ -265,5 +296,6 @@ impl Asked {
             .signed(self.y)
             .gives(number)
             .slice(&self.given.plane().data)
+            .reads(self.strays())
     }
 }

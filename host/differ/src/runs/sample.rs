@@ -12,6 +12,7 @@ use crate::case::{Case, Difference, Failure, Least, Tally, smaller_numbers};
 use crate::judge;
 use crate::lent::one_place;
 use crate::random::Random;
+use crate::stray::Strays;
 
 pub const NAME: &str = "sample";
 
@@ -118,6 +119,11 @@ impl Case for Sample {
         }
         found
     }
+
+    /// Of the plane in the middle, at the place that is asked for.
+    fn strays(&self) -> Strays {
+        self.trio.0[1].strays_at(self.x, self.y)
+    }
 }
 
 /// Codes of which some would name something if they were cut to fewer bits.
@@ -191,6 +197,7 @@ const OF_EACH_SPOILT: u64 = 12;
 pub fn run(random: &mut Random) -> Result<Tally, Failure> {
     let mut own = || Random::new(random.next());
     let (mut for_tiny, mut for_large, mut for_whole, mut for_spoilt) = (own(), own(), own(), own());
+    let smallest = smallest();
     let tiny = (0..160).flat_map(move |_| {
         let trio = trio::random(&mut for_tiny, 4, 4, true);
         every_place(&mut for_tiny, trio)
@@ -211,11 +218,27 @@ pub fn run(random: &mut Random) -> Result<Tally, Failure> {
         accepted: 1_000_000,
         refused: 100_000,
     };
-    Tally::of(NAME, least, tiny.chain(large).chain(whole).chain(spoilt))
+    let all = smallest.chain(tiny).chain(large).chain(whole).chain(spoilt);
+    Tally::of(NAME, least, all)
 }
 
-/// The widest, the highest, the largest stride, and a usual size.
-const LARGE: [[desk::calls::PlaneNumbers; 3]; 4] = [
+/// Every quality of planes of one sample, of ten bits.
+fn smallest() -> impl Iterator<Item = Sample> {
+    read::WORDS.into_iter().flat_map(|word| {
+        let trio = Rc::new(Trio::one_sample(word));
+        (0..4).map(move |quality| Sample {
+            quality,
+            first: 1,
+            mate: 2,
+            x: 0,
+            y: 0,
+            trio: trio.clone(),
+        })
+    })
+}
+
+/// The widest, the highest, the largest stride, and usual sizes.
+const LARGE: [[desk::calls::PlaneNumbers; 3]; 5] = [
     [
         numbers(8192, 5, 16, 32_768, 2),
         numbers(8192, 5, 16, 65_536, 3),
@@ -232,20 +255,26 @@ const LARGE: [[desk::calls::PlaneNumbers; 3]; 4] = [
         numbers(720, 480, 10, 1440, 1),
         numbers(720, 480, 10, 2880, 3),
     ],
+    [numbers(720, 480, 12, 1440, 0); 3],
 ];
 
 /// Answers of small planes, without an end; one in four has something wrong.
 pub(crate) fn answers(mut random: Random) -> impl Iterator<Item = Answer> {
-    std::iter::repeat_with(move || {
+    let others = std::iter::repeat_with(move || {
         let whole = !random.one_in(4);
         let trio = Rc::new(trio::random(&mut random, 12, 8, whole));
-        let case = asked(&mut random, &trio);
+        asked(&mut random, &trio)
+    });
+    smallest().step_by(3).chain(others).map(|case| {
         let wanted = case.wanted();
-        trio.answer(Answer::of("sample").number(case.quality))
+        let front = Answer::of("sample").number(case.quality);
+        case.trio
+            .answer(front)
             .numbers([case.first, case.mate])
             .signed(case.x)
             .signed(case.y)
             .gives(wanted.err().unwrap_or(0))
             .float(wanted.ok())
+            .reads(case.strays())
     })
 }

@@ -9,9 +9,10 @@ use oracle::video::filter::Samples;
 use super::read;
 use crate::answers::Answer;
 use crate::case::smaller_numbers;
-use crate::given::{Contents, EDGES_OF_HEIGHT, EDGES_OF_WIDTH, Given, edge_of};
+use crate::given::{self, Contents, EDGES_OF_HEIGHT, EDGES_OF_WIDTH, Given, LAYOUTS, edge_of};
 use crate::judge::{self, Lent};
 use crate::random::Random;
+use crate::stray::Strays;
 
 /// The quality of a code that the judge lets pass.
 pub fn quality_named(code: u8) -> Deinterlace {
@@ -41,6 +42,20 @@ impl Trio {
     /// The Rust's view of them, where all are within the bounds.
     pub fn samples(&self) -> [Samples<'_>; 3] {
         self.0.each_ref().map(|given| read::samples(given))
+    }
+
+    /// All samples of all three.
+    pub fn strays(&self) -> Strays {
+        let mut all = Strays::default();
+        for given in &self.0 {
+            all += given.strays();
+        }
+        all
+    }
+
+    /// The same three planes, each of one sample of ten bits.
+    pub fn one_sample(word: u16) -> Self {
+        Self([0; 3].map(|_| Rc::new(read::one_sample(word))))
     }
 
     /// All three with a smaller size or depth, then one of them simpler.
@@ -85,13 +100,9 @@ impl Trio {
 /// of which something is at or past a bound.
 pub fn random(random: &mut Random, most_width: u32, most_height: u32, whole: bool) -> Trio {
     let (width, height) = size(random, most_width, most_height);
-    let depth = if random.one_in(4) {
-        8
-    } else {
-        random.between(9, 16) as u32
-    };
+    let depth = given::depth(random);
     let one_layout = random.one_in(3);
-    let layout = random.below(4) as u32;
+    let layout = *random.pick(LAYOUTS);
     let mut drafts = [0; 3].map(|_| Draft {
         shape: PlaneNumbers {
             width,
@@ -101,7 +112,7 @@ pub fn random(random: &mut Random, most_width: u32, most_height: u32, whole: boo
             layout: if one_layout {
                 layout
             } else {
-                random.below(4) as u32
+                *random.pick(LAYOUTS)
             },
         },
         padding: *random.pick(&[0, 0, 1, 2, 3, 7, 16]),
