@@ -216,6 +216,17 @@ fn byte_at(plane: &[u8], i: usize) -> u16
     if i < plane.len() { wide(plane[i]) } else { 0 }
 }
 
+// Two bytes, the low one first. Where both are there, one test is enough, and one read.
+fn pair_at(plane: &[u8], i: usize) -> u16
+    requires { ⌜ i < 2 ^ 49 ⌝ }
+    ensures { λ r. ⌜ r ≡ getD (now (plane .entry)) i 0 + 256 * getD (now (plane .entry)) (i + 1) 0 ⌝ }
+{
+    if i + 1 < plane.len() {
+        return wide(plane[i]) + 256 * wide(plane[i + 1]);
+    }
+    byte_at(plane, i)
+}
+
 fn stored_at(plane: &[u8], depth: u8, i: usize) -> u16
     requires { ⌜ i < 2 ^ 49 ⌝ }
     ensures { λ r. ⌜ r ≡ storedAt (now (plane .entry)) depth i ⌝ }
@@ -223,7 +234,7 @@ fn stored_at(plane: &[u8], depth: u8, i: usize) -> u16
     if depth <= 8 {
         return byte_at(plane, i);
     }
-    byte_at(plane, i) + 256 * byte_at(plane, i + 1)
+    pair_at(plane, i)
 }
 
 pub fn shift_of(layout: Layout, depth: u8) -> u8
@@ -266,8 +277,7 @@ pub fn cut(word: u16, full: u16) -> u16
     if word < full { word } else { full }
 }
 
-// A code, of any shape; 0 past the end. A byte is never above the largest code, nor is what the shift
-// leaves of a biplanar word.
+// A code, of any shape; 0 past the end. A byte is neither shifted nor above the largest code.
 pub fn code_at(plane: &[u8], s: Shape, x: u16, y: u16) -> u16
     ensures { λ r. ⌜ r ≡ codeOf (now (plane .entry)) s x y ⌝ }
 {
@@ -276,10 +286,8 @@ pub fn code_at(plane: &[u8], s: Shape, x: u16, y: u16) -> u16
     if s.depth <= 8 {
         return stored;
     }
-    if is_biplanar(layout) {
-        return shifted(stored, shift_of(layout, s.depth));
-    }
-    cut(stored, full_code(s.depth))
+    let right = shift_of(layout, s.depth);
+    cut(shifted(stored, right), full_code(s.depth))
 }
 
 // The coordinate c - 65,544 brought into 0 .. size - 1.

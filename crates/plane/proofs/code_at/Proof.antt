@@ -1,11 +1,11 @@
-use mathlib.Core.Path.{_≡_, sym, ap, _∙_}
-use Prim.Native.Nat.{ℕ, _/_, _^_, min}
+use mathlib.Core.Path.{_≡_, ap, _∙_}
+use Prim.Native.Nat.{ℕ}
 use native.Mathlib.Omega.{arith}
 use denote.Ref.{now}
 use borrow.Author.Needs.{needs}
-use Rattle.plane.specs.Plane.{startOf, storedAt}
+use Rattle.plane.specs.Plane.{startOf, storedAt, codeOf}
 use Rattle.plane.specs.Claims.{AllBytes}
-use Rattle.plane.proofs.Codes.{byte-code, biplanar-code, planar-code}
+use Rattle.plane.proofs.Codes.{byte-code}
 use Rattle.plane.proofs.code_at.Statement.{statement}
 use Rattle.plane.proofs.code_at.Tie as tie
 
@@ -30,23 +30,11 @@ returns c =
     let a = read .before .before .before .args in
     stored read ∙ byte-code (now (a .plane)) (all-bytes (read .before .before)) (a .s) (a .x) (a .y) (c .if1 .taken)
 
-is-biplanar-requires : tie.Need-is-biplanar-requires
-is-biplanar-requires c κs = search needs
-
 shift-of-requires : tie.Need-shift-of-requires
 shift-of-requires c κs = search needs
 
 shifted-requires : tie.Need-shifted-requires
 shifted-requires c κs = search needs
-
-returns-2 : tie.Need-returns-2
-returns-2 c =
-    let kind = c .before .before .before in
-    let read = kind .before .before .before in
-    let a = read .before .before .before .args in
-    c .shifted .ensures
-    ∙ (λ i. stored read i / 2 ^ c .before .shift-of .ensures .0 i)
-    ∙ biplanar-code (now (a .plane)) (all-bytes (read .before .before)) (a .s) (a .x) (a .y) (sym (kind .is-biplanar .ensures) ∙ c .before .before .if2 .taken)
 
 full-code-requires : tie.Need-full-code-requires
 full-code-requires c κs = search needs
@@ -54,16 +42,10 @@ full-code-requires c κs = search needs
 cut-requires : tie.Need-cut-requires
 cut-requires c κs = search needs
 
-returns-3 : tie.Need-returns-3
-returns-3 c =
-    let kind = c .before .before .before in
-    let read = kind .before .before .before in
-    let a = read .before .before .before .args in
-    c .cut .ensures .0
-    ∙ (λ i. min (stored read i) (c .before .full-code .ensures i))
-    ∙ planar-code (now (a .plane)) (all-bytes (read .before .before)) (a .s) (a .x) (a .y) (sym (kind .is-biplanar .ensures) ∙ c .before .before .if2 .left)
+returns-2 : tie.Need-returns-2
+unfolding codeOf
+returns-2 c = cc
 
 pub code-at-spec : {M : Type 1} → statement M
 code-at-spec =
-    tie.close
-    (tie.spec start-of-requires stored-at-requires returns is-biplanar-requires shift-of-requires shifted-requires returns-2 full-code-requires cut-requires returns-3)
+    tie.close (tie.spec start-of-requires stored-at-requires returns shift-of-requires shifted-requires full-code-requires cut-requires returns-2)
