@@ -138,11 +138,11 @@ module _ (g : Grid) (h : 8 < g .depth) (deep : g .depth ≤ 16) where
       rw (lt-leb (g .depth) 8 h, low, high) (cut-behind _ (g .depth) (omega arith) deep)
 
   pub pairs-kept :
-      (bytes : List ℕ) (y : ℕ) {n right : ℕ} {row : List ℕ} →
-      row ≡ take (g .width * 2) (drop (y * g .stride) bytes) → n ≡ g .width → right ≡ g .depth - 8 →
-      listed n (pairKept row right) ≡ listed (g .width) (λ x. keptOf bytes (gridShape g) x y)
-  pairs-kept bytes y {n} {right} {row} part e d =
-      (λ i. listed (e i) (pairKept (part i) (d i)))
+      (bytes : List ℕ) (y : ℕ) {n : ℕ} {row : List ℕ} →
+      row ≡ take (g .width * 2) (drop (y * g .stride) bytes) → n ≡ g .width →
+      listed n (pairKept row (g .depth - 8)) ≡ listed (g .width) (λ x. keptOf bytes (gridShape g) x y)
+  pairs-kept bytes y {n} {row} part e =
+      (λ i. listed (e i) (pairKept (part i) (g .depth - 8)))
       ∙ same-listed (g .width) _ _
       (λ x l.
       ap₂ (λ (low high : ℕ). min ((low + 256 * high) / 2 ^ (g .depth - 8)) 255)

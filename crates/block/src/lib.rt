@@ -61,7 +61,7 @@ fn modulo_256(code: u16) -> u16
 
 // A row of one byte a sample, and one of two. The loops run over parts, so that the compiler drops
 // every index test and vectorises them. A code is cut at 255 behind its shift, which comes to the same as
-// at the largest code before it, and a vector is narrowed so at no cost.
+// at the largest code before it.
 fn keep_bytes(to: &mut [u8], row: &[u8])
     requires { ⌜ length (now row) ≡ length (now to) ⌝ }
     ensures { λ _. ⌜ now (to .exit) ≡ listed (length (now (to .entry))) (λ x. getD (now (row .entry)) x 0) ⌝ }
@@ -86,6 +86,23 @@ fn keep_pairs(to: &mut [u8], row: &[u8], right: u16)
     }
 }
 
+// Each depth has a loop of its own, since a shift by a constant narrows a vector with the cut at no cost.
+fn keep_deep(to: &mut [u8], row: &[u8], right: u16)
+    requires { ⌜ (length (now row) ≡ length (now to) * 2) × (1 ≤ right) × (right ≤ 8) ⌝ }
+    ensures { λ _. ⌜ now (to .exit) ≡ listed (length (now (to .entry))) (pairKept (now (row .entry)) right) ⌝ }
+{
+    match right {
+        1 => keep_pairs(to, row, 1),
+        2 => keep_pairs(to, row, 2),
+        3 => keep_pairs(to, row, 3),
+        4 => keep_pairs(to, row, 4),
+        5 => keep_pairs(to, row, 5),
+        6 => keep_pairs(to, row, 6),
+        7 => keep_pairs(to, row, 7),
+        _ => keep_pairs(to, row, 8),
+    }
+}
+
 // Row y of a picture of one byte a sample, where it stands.
 fn byte_row(plane: &[u8], grid: Grid, y: usize) -> &[u8]
     requires { ⌜ RowReady (gridShape grid) (length (now plane)) y × (grid .depth ≤ 8) ⌝ }
@@ -105,13 +122,8 @@ fn keep_row(to: &mut [u8], plane: &[u8], grid: Grid, y: usize)
     }
     let start = y * (grid.stride as usize);
     let bytes = (grid.width as usize) * 2;
-    let row = part_at(plane, start, bytes);
-    if 16 <= grid.depth {
-        keep_pairs(to, row, 8);
-        return;
-    }
     let right = grid.depth as u16 - 8;
-    keep_pairs(to, row, right);
+    keep_deep(to, part_at(plane, start, bytes), right);
 }
 
 // ---- blocks
