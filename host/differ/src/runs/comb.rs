@@ -95,9 +95,9 @@ pub fn run(random: &mut Random) -> Result<Tally, Failure> {
         (1, 4352, 16, 3, Noise(seed)),
         (2, 4351, 8, 2, Noise(seed)),
         (1920, 1080, 10, 3847, Noise(seed)),
-        (1280, 720, 12, 2560, stray(0)),
-        (720, 480, 15, 1441, stray(1)),
-        (720, 480, 9, 1440, stray(2)),
+        (640, 360, 12, 1280, stray(0)),
+        (320, 240, 15, 641, stray(1)),
+        (320, 240, 9, 640, stray(2)),
     ];
     let large: Vec<_> = large
         .into_iter()
