@@ -184,25 +184,32 @@ impl Blocks {
         judge::films::busy(shape, length, usize::MAX, 0) == 0
     }
 
+    /// The picture as it would be kept; nothing of one that is not in order.
+    fn now(&self) -> Vec<u8> {
+        if !self.is_whole() {
+            return Vec::new();
+        }
+        film::kept_of(self.given.fed(), self.given.shape)
+    }
+
     /// The number, and busy and all blocks where it is 0.
-    fn wanted(&self, then: &[u8]) -> (u8, Option<Counts>) {
+    fn wanted(&self, now: &[u8], then: &[u8]) -> (u8, Option<Counts>) {
         let shape = self.given.shape;
         let number = judge::films::busy(shape, self.given.length, self.room, self.parity);
         let counts = (number == 0).then(|| {
-            let now = film::kept_of(self.given.fed(), shape);
             let size = (shape.width as usize, shape.height as usize);
-            by_reading(&now, then, size.0, size.1, self.parity)
+            by_reading(now, then, size.0, size.1, self.parity)
         });
         (number, counts)
     }
 
-    fn store(&self) -> Vec<u8> {
+    fn store(&self, now: &[u8]) -> Vec<u8> {
         let mut store = match &self.store {
             Store::Noise(seed) => Random::new(*seed).bytes(self.room),
             Store::Listed(bytes) => bytes.clone(),
             Store::Near(seed) if self.is_whole() => {
                 let shape = self.given.shape;
-                let mut kept = film::kept_of(self.given.fed(), shape);
+                let mut kept = now.to_vec();
                 let size = (shape.width as usize, shape.height as usize);
                 alter(&mut kept, size, &mut Random::new(*seed));
                 kept.extend(Random::new(*seed).bytes(16));
@@ -261,8 +268,9 @@ fn alter(kept: &mut [u8], (width, height): (usize, usize), random: &mut Random) 
 impl Case for Blocks {
     fn compare(&self) -> Result<u8, Difference> {
         let shape = self.given.shape;
-        let then = self.store();
-        let (number, wanted) = self.wanted(&then);
+        let now = self.now();
+        let then = self.store(&now);
+        let (number, wanted) = self.wanted(&now, &then);
         let lent = Between::noise(&then);
         for pattern in PATTERNS {
             let mut places = [pattern; 5];
@@ -356,7 +364,7 @@ impl Case for Blocks {
                 });
                 if self.room <= 256 {
                     found.push(Self {
-                        store: Store::Listed(self.store()),
+                        store: Store::Listed(self.store(&self.now())),
                         ..self.clone()
                     });
                 }
@@ -504,8 +512,9 @@ pub(crate) fn answers(mut random: Random) -> impl Iterator<Item = Answer> {
         right(&mut random, given)
     });
     let answer = |case: Blocks| {
-        let then = case.store();
-        let (number, counts) = case.wanted(&then);
+        let now = case.now();
+        let then = case.store(&now);
+        let (number, counts) = case.wanted(&now, &then);
         if let Some(counts) = counts {
             let below = Below {
                 luma: case.given.fed(),
@@ -538,7 +547,7 @@ pub(crate) fn answers(mut random: Random) -> impl Iterator<Item = Answer> {
 
 #[cfg(test)]
 mod tests {
-    use super::{film, smallest};
+    use super::smallest;
 
     /// By the rules: of ten bits 1,022 and 1,023 are kept as 255, and so is every
     /// word above. That is more than 8 from 0 and 246, and 8 from 247.
@@ -547,10 +556,11 @@ mod tests {
         let cases: Vec<_> = smallest().collect();
         assert_eq!(cases.len(), 7 * 3);
         for (at, case) in cases.iter().enumerate() {
-            let kept = film::kept_of(case.given.fed(), case.given.shape);
-            assert_eq!(kept, [255], "{case:?}");
+            let now = case.now();
+            assert_eq!(now, [255], "{case:?}");
+            let found = case.wanted(&now, &case.store(&now));
             let busy = u64::from(at % 3 < 2);
-            assert_eq!(case.wanted(&case.store()), (0, Some((busy, 1))), "{case:?}");
+            assert_eq!(found, (0, Some((busy, 1))), "{case:?}");
         }
     }
 }

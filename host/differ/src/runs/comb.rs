@@ -82,18 +82,22 @@ pub fn run(random: &mut Random) -> Result<Tally, Failure> {
         stray: true,
     };
     // Width, height, depth, stride. A row of the first adds up to more than in
-    // any other shape, and its rows together need more than 32 bits.
+    // any other shape, and its rows together need more than 32 bits. Of the stripes
+    // of 9 and 15 bits every other row is cut, and each sample adds the most that
+    // codes of the depth can.
     let large = [
         (8192, 128, 16, 16_384, Stripes),
         (8192, 256, 8, 8192, Stripes),
+        (8192, 65, 15, 16_384, Stripes),
+        (8191, 33, 9, 16_383, Stripes),
         (8192, 3, 16, 65_536, Noise(seed)),
         (8191, 6, 8, 8193, Noise(seed)),
         (1, 4352, 16, 3, Noise(seed)),
         (2, 4351, 8, 2, Noise(seed)),
         (1920, 1080, 10, 3847, Noise(seed)),
-        (1280, 720, 12, 2560, stray(0)),
-        (720, 480, 15, 1441, stray(1)),
-        (720, 480, 9, 1440, stray(2)),
+        (640, 360, 12, 1280, stray(0)),
+        (320, 240, 15, 641, stray(1)),
+        (320, 240, 9, 640, stray(2)),
     ];
     let large: Vec<_> = large
         .into_iter()

@@ -577,8 +577,8 @@ fn every(before: Vec<Call>, alphabet: Vec<Call>, length: u32) -> impl Iterator<I
 /// From a fresh detector on: pictures that repeat one field or none, led by
 /// either, of another size, of one row; counts; a reset; a refused picture.
 fn alphabet() -> Vec<Call> {
-    let [one, other, third] = [(0, 0), (0, 255), (255, 255)].map(|(a, b)| flat(64, 16, a, b));
-    let narrow = flat(48, 16, 255, 255);
+    let [one, other, third] = [(0, 0), (0, 255), (255, 255)].map(|(a, b)| flat(64, 8, a, b));
+    let narrow = flat(48, 8, 255, 255);
     let row = flat(64, 1, 0, 0);
     vec![
         push(0, &one),
@@ -594,7 +594,7 @@ fn alphabet() -> Vec<Call> {
         Call::Push {
             parity: 0,
             shown: third,
-            store: 800,
+            store: 400,
             state: ALL,
         },
     ]
@@ -644,7 +644,7 @@ fn alphabet_of_pictures() -> Vec<Call> {
         .map(|(top, bottom)| push(0, &flat(64, 32, top, bottom)))
         .collect();
     for (width, height) in [(64, 31), (64, 33), (63, 32), (65, 32), (32, 64)] {
-        all.push(push(0, &flat(width, height, 0, 0)));
+        all.push(push(0, &flat(width, height, 255, 255)));
     }
     all.push(push(1, &flat(64, 32, 0, 0)));
     all
