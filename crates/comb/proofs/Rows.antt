@@ -1,14 +1,16 @@
--- Laws of rows: what three rows lent as parts of a plane have, and that their bends are those of the plane's codes.
+-- Laws of rows: what three rows lent as parts of a plane have, and that their bends are those of the plane's codes; and the same of tiles, which
+-- are parts of rows.
 use Prim.Native.Nat.{ℕ, _+_, _-_, _*_, _≤_, _<_, min}
-use mathlib.Core.Path.{_≡_, refl, ap, ap₂, _∙_}
-use mathlib.Core.List.{List}
+use mathlib.Core.Path.{_≡_, refl, sym, ap, ap₂, _∙_}
+use mathlib.Core.List.{List, _++_}
 use native.Mathlib.Nat.{add-mul, mul-le-mul-right}
 use native.Mathlib.Omega.{arith}
-use lib.ListN.{length, take, drop}
-use lib.Seq.{getD-take}
+use lib.ListN.{length, getD, take, drop, length-append}
+use lib.Seq.{getD-take, take-at, length-take-le}
+use Rattle.laws.specs.Rows.{listed}
 use Rattle.laws.specs.Sums.{sumOver, apart}
-use Rattle.laws.proofs.Lists.{part-length}
-use Rattle.laws.proofs.Sums.{same-terms}
+use Rattle.laws.proofs.Lists.{part-length, part-at, length-listed, listed-at}
+use Rattle.laws.proofs.Sums.{same-terms, sum-parts, Summed}
 use Rattle.comb.specs.declared.Kind.{Kind}
 use Rattle.comb.specs.declared.Kind.the-variants.{Byte, Pair, Cut, Green}
 use Rattle.comb.specs.Comb.{bendOf}
@@ -74,3 +76,84 @@ module _
       same-bend refl (row-code kind bytes width stride x y long s u l)
       (row-code kind bytes width stride x (y + 1) long (next-row y stride s) h l)
       (row-code kind bytes width stride x (y + 2) long (row-after-next y stride s) d l))
+
+-- ---- a tile's bends in an array: its first n places, lent to be filled and lent again to be added up
+pub front-places : (array : List ℕ) (n : ℕ) → n ≤ length array → length (take (n - 0) (drop 0 array)) ≡ n
+front-places array n h =
+    let whole : n - 0 ≡ n = omega arith in
+    rw whole (length-take-le n array h)
+
+module _ (f : ℕ → ℕ) (rest : List ℕ) {n m : ℕ} {filled : List ℕ} (e : filled ≡ listed m f) (all : m ≡ n) where
+  in-place : filled ≡ listed n f
+  in-place = e ∙ ap (λ (k : ℕ). listed k f) all
+
+  places : length filled ≡ n
+  places = ap length in-place ∙ length-listed n f
+
+  abbrev lentAgain : List ℕ
+  lentAgain = take (n - 0) (drop 0 (filled ++ rest))
+
+  lent-again : lentAgain ≡ listed n f
+  lent-again =
+      let whole : n - 0 ≡ n = omega arith in
+      rw whole (take-at filled rest n places) ∙ in-place
+
+  pub array-holds : n ≤ length (filled ++ rest)
+  array-holds = rw length-append (omega (arith, places))
+
+  pub array-sum :
+      {r : ℕ} → (r ≡ sumOver (length lentAgain) (λ x. getD lentAgain x 0)) × (r ≤ 65535 * length lentAgain) →
+      (r ≡ sumOver n f) × (r ≤ 65535 * n)
+  array-sum {r} s =
+      let long : length lentAgain ≡ n = ap length lent-again ∙ length-listed n f in (
+        s .0
+            ∙ (λ i. sumOver (long i) (λ x. getD (lent-again i) x 0))
+            ∙ same-terms n _ f (λ x l. listed-at n f x 0 l),
+        omega (arith, s .1, long),
+      )
+
+-- ---- a tile lent as a part of its row, n columns from column x on
+-- in each of its columns it has the code that stands there in the row
+tile-code :
+    (full : ℕ) (row : List ℕ) (x n k : ℕ) {part : List ℕ} → part ≡ take (2 * n) (drop (2 * x) row) → k < n →
+    codeIn (Cut full) part k ≡ codeIn (Cut full) row (x + k)
+tile-code full row x n k p h =
+    let low : 2 * x + k * 2 ≡ (x + k) * 2 = omega arith in
+    let high : 2 * x + (k * 2 + 1) ≡ (x + k) * 2 + 1 = omega arith in
+    (λ i. codeIn (Cut full) (p i) k)
+    ∙ ap₂ (λ (a b : ℕ). min (a + 256 * b) full)
+    (part-at row (2 * x) (2 * n) (k * 2) 0 (omega arith) ∙ ap (λ (at : ℕ). getD row at 0) low)
+    (part-at row (2 * x) (2 * n) (k * 2 + 1) 0 (omega arith) ∙ ap (λ (at : ℕ). getD row at 0) high)
+
+module _
+    (full : ℕ) (up here down : List ℕ) (x n : ℕ) {upper inner lower : List ℕ}
+    (u : upper ≡ take (2 * n) (drop (2 * x) up))
+    (h : inner ≡ take (2 * n) (drop (2 * x) here))
+    (d : lower ≡ take (2 * n) (drop (2 * x) down)) where
+  pub tile-rows : {width : ℕ} → Rows (Cut full) width up here down → x + n ≤ width → Rows (Cut full) n upper inner lower
+  tile-rows {width} r w =
+      let size : 2 * n ≡ n * 2 = omega arith in
+      record {
+        above = ap length u ∙ part-length up (2 * x) (2 * n) (omega (arith, r .above)) ∙ size;
+        inner = ap length h ∙ part-length here (2 * x) (2 * n) (omega (arith, r .inner)) ∙ size;
+        below = ap length d ∙ part-length down (2 * x) (2 * n) (omega (arith, r .below)) ∙ size;
+        narrow = omega (arith, r .narrow);
+        low = r .low;
+      }
+
+  -- with its bends, those of the columns before it become those of the columns up to its end
+  pub adds-tile :
+      {width sum more : ℕ} →
+      Summed 65535 (bendIn (Cut full) up here down) width sum x → x + n ≤ width →
+      (more ≡ sumOver n (bendIn (Cut full) upper inner lower)) × (more ≤ 65535 * n) →
+      Summed 65535 (bendIn (Cut full) up here down) width (sum + more) (x + n)
+  adds-tile {width} {sum} {more} s w m = record {
+    within = w;
+    small = omega (arith, s .small, m .1);
+    exact =
+        ap₂ (λ (a b : ℕ). a + b) (s .exact)
+        (m .0
+        ∙ same-terms n _ (λ k. bendIn (Cut full) up here down (x + k))
+        (λ k l. same-bend refl (tile-code full up x n k u l) (tile-code full here x n k h l) (tile-code full down x n k d l)))
+        ∙ sym (sum-parts x n (bendIn (Cut full) up here down));
+  }

@@ -5,9 +5,10 @@
 //
 // Comb: how far each row stands out from the two beside it, summed over a picture.
 ghost use mathlib.Core.Path.{_≡_};
-ghost use Prim.Native.Nat.{_+_, _*_, _-_, _<_, _≤_};
-ghost use lib.ListN.{length, take, drop};
+ghost use Prim.Native.Nat.{_+_, _*_, _-_, _<_, _≤_, min};
+ghost use lib.ListN.{length, getD, take, drop};
 ghost use Rattle.laws.specs.Refusal.{whenDone};
+ghost use Rattle.laws.specs.Rows.{listed};
 ghost use Rattle.laws.specs.Sums.{sumOver, apart};
 ghost use Rattle.comb.specs.Comb.{combOf, planeComb, rgbaComb};
 ghost use Rattle.comb.specs.Answer.{combedNo, combedValues, combNo, rgbaNo};
@@ -132,6 +133,61 @@ fn pairs_bend(up: &[u8], here: &[u8], down: &[u8], width: usize) -> u32
     sum
 }
 
+// The bends of a part of a row, one for each column, in sixteen bits: with no wider sum in its loop a
+// vector holds eight.
+fn cut_bends(bends: &mut [u16], up: &[u8], here: &[u8], down: &[u8], full: u16)
+    requires { ⌜ Rows (Cut full) (length (now bends)) (now up) (now here) (now down) ⌝ }
+    ensures { λ _. ⌜ now (bends .exit) ≡ listed (length (now (bends .entry))) (bendIn (Cut full) (now (up .entry)) (now (here .entry)) (now (down .entry))) ⌝ }
+{
+    let mut x = 0;
+    while x < bends.len() {
+        bends[x] = low_bend(
+            cut_at(up, x, full),
+            cut_at(here, x, full),
+            cut_at(down, x, full),
+        );
+        x += 1;
+    }
+}
+
+fn wider(bend: u16) -> u32
+    ensures { λ r. ⌜ (r ≡ bend) × (r ≤ 65535) ⌝ }
+{
+    bend as u32
+}
+
+// Bends added up.
+fn sum_of(bends: &[u16]) -> u32
+    requires { ⌜ length (now bends) ≤ 512 ⌝ }
+    ensures { λ r. ⌜ (r ≡ sumOver (length (now (bends .entry))) (λ x. getD (now (bends .entry)) x 0)) × (r ≤ 65535 * length (now (bends .entry))) ⌝ }
+{
+    let mut sum: u32 = 0;
+    let mut x = 0;
+    while x < bends.len() {
+        sum += wider(bends[x]);
+        x += 1;
+    }
+    sum
+}
+
+// Those of a tile, which is a part of a row.
+fn tile_bend(up: &[u8], here: &[u8], down: &[u8], n: usize, full: u16) -> u32
+    requires { ⌜ Rows (Cut full) n (now up) (now here) (now down) × (n ≤ 512) ⌝ }
+    ensures { λ r. ⌜ (r ≡ sumOver n (bendIn (Cut full) (now (up .entry)) (now (here .entry)) (now (down .entry)))) × (r ≤ 65535 * n) ⌝ }
+{
+    let mut bends = [0u16; 512];
+    cut_bends(&mut bends[0..n], up, here, down, full);
+    sum_of(&bends[0..n])
+}
+
+// A tile's columns, or what is left at the edge.
+fn lesser(side: usize, left: usize) -> usize
+    ensures { λ r. ⌜ r ≡ min side left ⌝ }
+{
+    if side <= left { side } else { left }
+}
+
+// In two passes over each tile, since a vector of a loop with this sum in it holds four.
 fn cuts_bend(up: &[u8], here: &[u8], down: &[u8], width: usize, full: u16) -> u32
     requires { ⌜ Rows (Cut full) width (now up) (now here) (now down) ⌝ }
     ensures { λ r. ⌜ r ≡ sumOver width (bendIn (Cut full) (now (up .entry)) (now (here .entry)) (now (down .entry))) ⌝ }
@@ -139,12 +195,15 @@ fn cuts_bend(up: &[u8], here: &[u8], down: &[u8], width: usize, full: u16) -> u3
     let mut sum: u32 = 0;
     let mut x = 0;
     while x < width {
-        sum += low_bend(
-            cut_at(up, x, full),
-            cut_at(here, x, full),
-            cut_at(down, x, full),
-        ) as u32;
-        x += 1;
+        let n = lesser(512, width - x);
+        sum += tile_bend(
+            row_at(up, 2 * x, 2 * n),
+            row_at(here, 2 * x, 2 * n),
+            row_at(down, 2 * x, 2 * n),
+            n,
+            full,
+        );
+        x += n;
     }
     sum
 }

@@ -1,7 +1,7 @@
 -- Laws of sums. A loop that adds f 0, f 1, .. keeps `Summed`: `starts` enters it, `adds` is a turn, `ends` leaves it.
 use Prim.Native.Nat.{ℕ, zero, suc, _+_, _*_, _≤_, _<_}
 use mathlib.Core.Path.{_≡_, refl, sym, ap, ap₂, _∙_}
-use native.Mathlib.Nat.{mul-suc, suc-mul, le-antisymm}
+use native.Mathlib.Nat.{add-zero, add-suc, add-assoc, mul-suc, suc-mul, le-antisymm}
 use native.Mathlib.Numerals.{add-one}
 use native.Mathlib.Omega.{arith}
 use Rattle.laws.specs.Sums.{sumOver}
@@ -16,6 +16,15 @@ same-terms (suc n) f g h = ap₂ (λ (a b : ℕ). a + b) (same-terms n f g (λ k
 pub one-more : (n : ℕ) (f : ℕ → ℕ) → sumOver (n + 1) f ≡ sumOver n f + f n
 unfolding sumOver
 one-more n f = rw add-one
+
+-- n terms after the first m
+pub sum-parts : (m n : ℕ) (f : ℕ → ℕ) → sumOver (m + n) f ≡ sumOver m f + sumOver n (λ k. f (m + k))
+unfolding sumOver
+sum-parts m zero f = ap (λ (k : ℕ). sumOver k f) (add-zero m) ∙ sym (add-zero (sumOver m f))
+sum-parts m (suc n) f =
+    ap (λ (k : ℕ). sumOver k f) (add-suc m n)
+    ∙ ap (λ (front : ℕ). front + f (m + n)) (sum-parts m n f)
+    ∙ add-assoc (sumOver m f) (sumOver n (λ k. f (m + k))) (f (m + n))
 
 -- ---- bounds
 -- a sum of terms none of which is above `most`

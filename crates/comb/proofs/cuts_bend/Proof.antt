@@ -1,16 +1,17 @@
 -- The loop keeps `Summed` of the columns passed.
 use Prim.Native.Nat.{_-_}
 use native.Mathlib.Omega.{arith}
+use denote.Ref.{now}
 use borrow.Author.Needs.{needs}
-use Rattle.laws.proofs.Sums.{Summed, starts, adds, ends}
+use Rattle.laws.proofs.Sums.{Summed, starts, ends}
 use Rattle.comb.specs.Rows.{bendIn}
 use Rattle.comb.specs.declared.Kind.the-variants.{Cut}
-use Rattle.comb.proofs.Rows.{same-bend}
+use Rattle.comb.proofs.Rows.{tile-rows, adds-tile}
 use Rattle.comb.proofs.cuts_bend.Statement.{statement}
 use Rattle.comb.proofs.cuts_bend.Tie as tie
 
 abbrev Inv-loop : tie.InvT-loop
-Inv-loop up here down width full sum₀ x₀ sum x = Summed 65534 (bendIn (Cut full) up here down) width sum x
+Inv-loop up here down width full sum₀ x₀ sum x = Summed 65535 (bendIn (Cut full) up here down) width sum x
 
 abbrev μ-loop : tie.MeasureT-loop
 μ-loop up here down width full sum₀ x₀ sum x = width - x
@@ -18,20 +19,49 @@ abbrev μ-loop : tie.MeasureT-loop
 loop-holds : tie.Need-loop-holds Inv-loop μ-loop
 loop-holds c = starts _ _ _
 
-cut-at-requires : tie.Need-cut-at-requires Inv-loop μ-loop
-cut-at-requires c κs = search needs
+sub-lesser : tie.Need-sub-lesser Inv-loop μ-loop
+sub-lesser c = omega arith
 
-cut-at-requires-2 : tie.Need-cut-at-requires-2 Inv-loop μ-loop
-cut-at-requires-2 c κs = search needs
+lesser-requires : tie.Need-lesser-requires Inv-loop μ-loop
+lesser-requires c κs = search needs
 
-cut-at-requires-3 : tie.Need-cut-at-requires-3 Inv-loop μ-loop
-cut-at-requires-3 c κs = search needs
+mul-row-at : tie.Need-mul-row-at Inv-loop μ-loop
+mul-row-at c = omega arith
 
-low-bend-requires : tie.Need-low-bend-requires Inv-loop μ-loop
-low-bend-requires c κs = search needs
+mul-row-at-2 : tie.Need-mul-row-at-2 Inv-loop μ-loop
+mul-row-at-2 c = omega arith
 
-cast-sum : tie.Need-cast-sum Inv-loop μ-loop
-cast-sum c = search needs
+row-at-requires : tie.Need-row-at-requires Inv-loop μ-loop
+row-at-requires c κs = omega arith
+
+mul-row-at-3 : tie.Need-mul-row-at-3 Inv-loop μ-loop
+mul-row-at-3 c = omega arith
+
+mul-row-at-4 : tie.Need-mul-row-at-4 Inv-loop μ-loop
+mul-row-at-4 c = omega arith
+
+row-at-requires-2 : tie.Need-row-at-requires-2 Inv-loop μ-loop
+row-at-requires-2 c κs = omega arith
+
+mul-row-at-5 : tie.Need-mul-row-at-5 Inv-loop μ-loop
+mul-row-at-5 c = omega arith
+
+mul-row-at-6 : tie.Need-mul-row-at-6 Inv-loop μ-loop
+mul-row-at-6 c = omega arith
+
+row-at-requires-3 : tie.Need-row-at-requires-3 Inv-loop μ-loop
+row-at-requires-3 c κs = omega arith
+
+tile-bend-requires : tie.Need-tile-bend-requires Inv-loop μ-loop
+tile-bend-requires c κs =
+    let tile = c .before .before .before in
+    let loop = tile .before .before in
+    let start = loop .before .before .before .before in
+    let a = start .args in (
+      tile-rows (a .full) (now (a .up)) (now (a .here)) (now (a .down)) (loop .loop .x) (tile .lesser .result)
+          (c .before .before .row-at .ensures) (c .before .row-at2 .ensures) (c .row-at3 .ensures) (start .pre) (omega arith),
+      omega arith,
+    )
 
 add-sum : tie.Need-add-sum Inv-loop μ-loop
 add-sum c = omega arith
@@ -44,12 +74,14 @@ loop-less c = omega arith
 
 loop-again : tie.Need-loop-again Inv-loop μ-loop
 loop-again c =
-    let turn = c .before .before .before .before in
-    adds (turn .before .loop .inv) (turn .loop-test .taken) (c .low-bend .ensures .1)
-    (same-bend (c .low-bend .ensures .0) (c .before .before .before .cut-at .ensures .0) (c .before .before .cut-at2 .ensures .0) (c .before .cut-at3 .ensures .0))
+    let tile = c .before .before .before .before in
+    let loop = tile .before .before in
+    let a = loop .before .before .before .before .args in
+    adds-tile (a .full) (now (a .up)) (now (a .here)) (now (a .down)) (loop .loop .x) (tile .lesser .result)
+    (c .before .before .before .row-at .ensures) (c .before .before .row-at2 .ensures) (c .before .row-at3 .ensures) (loop .loop .inv) (omega arith) (c .tile-bend .ensures)
 
 returns : tie.Need-returns Inv-loop μ-loop
-returns c = ends (c .before .loop .inv) (c .loop-test .left)
+returns c = ends (c .before .loop .inv) (omega arith)
 
 pub cuts-bend-spec : {M : Type 1} → statement M
 cuts-bend-spec =
@@ -58,11 +90,18 @@ cuts-bend-spec =
     Inv-loop
     μ-loop
     loop-holds
-    cut-at-requires
-    cut-at-requires-2
-    cut-at-requires-3
-    low-bend-requires
-    cast-sum
+    sub-lesser
+    lesser-requires
+    mul-row-at
+    mul-row-at-2
+    row-at-requires
+    mul-row-at-3
+    mul-row-at-4
+    row-at-requires-2
+    mul-row-at-5
+    mul-row-at-6
+    row-at-requires-3
+    tile-bend-requires
     add-sum
     add-x
     loop-less
