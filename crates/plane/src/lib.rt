@@ -216,17 +216,6 @@ fn byte_at(plane: &[u8], i: usize) -> u16
     if i < plane.len() { wide(plane[i]) } else { 0 }
 }
 
-// Two bytes, the low one first. Where both are there, one test is enough, and one read.
-fn pair_at(plane: &[u8], i: usize) -> u16
-    requires { ⌜ i < 2 ^ 49 ⌝ }
-    ensures { λ r. ⌜ r ≡ getD (now (plane .entry)) i 0 + 256 * getD (now (plane .entry)) (i + 1) 0 ⌝ }
-{
-    if i + 1 < plane.len() {
-        return wide(plane[i]) + 256 * wide(plane[i + 1]);
-    }
-    byte_at(plane, i)
-}
-
 fn stored_at(plane: &[u8], depth: u8, i: usize) -> u16
     requires { ⌜ i < 2 ^ 49 ⌝ }
     ensures { λ r. ⌜ r ≡ storedAt (now (plane .entry)) depth i ⌝ }
@@ -234,7 +223,7 @@ fn stored_at(plane: &[u8], depth: u8, i: usize) -> u16
     if depth <= 8 {
         return byte_at(plane, i);
     }
-    pair_at(plane, i)
+    byte_at(plane, i) + 256 * byte_at(plane, i + 1)
 }
 
 pub fn shift_of(layout: Layout, depth: u8) -> u8
