@@ -18,7 +18,7 @@ int-to-float-result-2 : tie.Need-int-to-float-result-2
 int-to-float-result-2 c = search needs
 
 returns : tie.Need-returns
-returns c = rw (c .before .before .cut .ensures .0, c .before .before .before .shifted .ensures, c .before .before .before .before .stored .ensures)
+returns c = cc
 
 pub value-spec : {M : Type 1} → statement M
 value-spec = tie.close (tie.spec stored-requires shifted-requires cut-requires int-to-float-result int-to-float-result-2 returns)
