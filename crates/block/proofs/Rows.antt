@@ -8,7 +8,6 @@ use native.Mathlib.Omega.{arith}
 use lib.ListN.{length, take, drop, getD}
 use lib.Dec.{leb}
 use lib.Pow.{pow-pos, pow-mono, pow-add, shr-lt}
-use lib.Seq.{length-take-le}
 use borrow.Author.Tests.{le-leb, lt-leb, leb-true, leb-false}
 use Rattle.laws.specs.Rows.{listed}
 use Rattle.laws.proofs.Lists.{length-listed, same-listed, listed-at, part-length, part-at}
@@ -31,11 +30,6 @@ row-within s bytes y long h =
 -- row y of a frame that is packed ends before row y + 1
 pub frame-within : (width height y : ℕ) → y < height → y * width + width ≤ height * width
 frame-within width height y h = rw suc-mul at (mul-le-mul-right {m = suc y} {n = height} width h)
-
-pub front-length : (bytes : List ℕ) (n : ℕ) → n ≤ length bytes → length (take (n - 0) (drop 0 bytes)) ≡ n
-front-length bytes n h =
-    let whole : n - 0 ≡ n = omega arith in
-    rw whole (length-take-le n bytes h)
 
 -- ---- rows of one byte a sample
 module _ (g : Grid) (h : g .depth ≤ 8) where

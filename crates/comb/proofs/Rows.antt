@@ -6,7 +6,7 @@ use mathlib.Core.List.{List, _++_}
 use native.Mathlib.Nat.{add-mul, mul-le-mul-right}
 use native.Mathlib.Omega.{arith}
 use lib.ListN.{length, getD, take, drop, length-append}
-use lib.Seq.{getD-take, take-at, length-take-le}
+use lib.Seq.{getD-take, take-at}
 use Rattle.laws.specs.Rows.{listed}
 use Rattle.laws.specs.Sums.{sumOver, apart}
 use Rattle.laws.proofs.Lists.{part-length, part-at, length-listed, listed-at}
@@ -78,11 +78,6 @@ module _
       (row-code kind bytes width stride x (y + 2) long (row-after-next y stride s) d l))
 
 -- ---- a tile's bends in an array: its first n places, lent to be filled and lent again to be added up
-pub front-places : (array : List ℕ) (n : ℕ) → n ≤ length array → length (take (n - 0) (drop 0 array)) ≡ n
-front-places array n h =
-    let whole : n - 0 ≡ n = omega arith in
-    rw whole (length-take-le n array h)
-
 module _ (f : ℕ → ℕ) (rest : List ℕ) {n m : ℕ} {filled : List ℕ} (e : filled ≡ listed m f) (all : m ≡ n) where
   in-place : filled ≡ listed n f
   in-place = e ∙ ap (λ (k : ℕ). listed k f) all

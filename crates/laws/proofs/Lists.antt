@@ -48,6 +48,12 @@ module _ {A : Type 0} where
   pub part-length : (l : List A) (start n : ℕ) → start + n ≤ length l → length (take n (drop start l)) ≡ n
   part-length l start n h = length-take-le n (drop start l) (rw length-drop (omega arith))
 
+  -- one that is lent from 0 on
+  pub front-length : (l : List A) (n : ℕ) → n ≤ length l → length (take (n - 0) (drop 0 l)) ≡ n
+  front-length l n h =
+      let whole : n - 0 ≡ n = omega arith in
+      rw whole (length-take-le n l h)
+
   pub part-at : (l : List A) (start n x : ℕ) (d : A) → x < n → getD (take n (drop start l)) x d ≡ getD l (start + x) d
   part-at l start n x d h = getD-take n (drop start l) x d h ∙ getD-drop start l x d
 

@@ -6,7 +6,7 @@ use borrow.Author.Needs.{needs}
 use Rattle.plane.proofs.Bounds.{good-within}
 use Rattle.plane.specs.Plane.{gridShape}
 use Rattle.block.specs.Block.{totalOf}
-use Rattle.block.proofs.Rows.{front-length}
+use Rattle.laws.proofs.Lists.{front-length}
 use Rattle.block.proofs.counts_of.Statement.{statement}
 use Rattle.block.proofs.counts_of.Tie as tie
 
@@ -32,7 +32,7 @@ busy-rows-requires c κs =
     let start = c .before .before .before .before .before in
     let s = start .args .grid in
     let narrow : s .width ≤ 8192 = good-within (gridShape s) (start .pre .0 .good) .width-most in
-    let wide = front-length (replicate 8192 0) (s .width) (rw (length-replicate {A = ℕ} 8192 0) narrow) in
+    let wide = front-length {A = ℕ} (replicate 8192 0) (s .width) (rw (length-replicate {A = ℕ} 8192 0) narrow) in
     (start .pre .0, start .pre .1, c .before .rows-of .ensures .0, wide)
 
 total-of-requires : tie.Need-total-of-requires

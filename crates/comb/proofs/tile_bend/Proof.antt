@@ -5,7 +5,8 @@ use denote.Ref.{now}
 use borrow.Author.Needs.{needs}
 use Rattle.comb.specs.Rows.{bendIn}
 use Rattle.comb.specs.declared.Kind.the-variants.{Cut}
-use Rattle.comb.proofs.Rows.{front-places, array-holds, array-sum}
+use Rattle.laws.proofs.Lists.{front-length}
+use Rattle.comb.proofs.Rows.{array-holds, array-sum}
 use Rattle.comb.proofs.tile_bend.Statement.{statement}
 use Rattle.comb.proofs.tile_bend.Tie as tie
 
@@ -14,7 +15,7 @@ bends s = bendIn (Cut (s .args .full)) (now (s .args .up)) (now (s .args .here))
 
 -- as many places are lent as the tile has columns
 lent : (s : tie.Start) → length {A = ℕ} (take (s .args .n - 0) (drop 0 (replicate 512 0))) ≡ s .args .n
-lent s = front-places (replicate 512 0) (s .args .n) (rw (length-replicate {A = ℕ} 512 0) (s .pre .1))
+lent s = front-length (replicate 512 0) (s .args .n) (rw (length-replicate {A = ℕ} 512 0) (s .pre .1))
 
 sub-cut-bends : tie.Need-sub-cut-bends
 sub-cut-bends c = search needs
