@@ -1,20 +1,21 @@
 -- Laws of rows: what three rows lent as parts of a plane have, and that their bends are those of the plane's codes; and the same of tiles, which
 -- are parts of rows.
 use Prim.Native.Nat.{ℕ, _+_, _-_, _*_, _≤_, _<_, min}
-use mathlib.Core.Path.{_≡_, refl, sym, ap, ap₂, _∙_}
-use mathlib.Core.List.{List, _++_}
+use mathlib.Core.Path.{_≡_, refl, ap, ap₂, _∙_}
+use mathlib.Core.List.{List}
 use native.Mathlib.Nat.{add-mul, mul-le-mul-right}
 use native.Mathlib.Omega.{arith}
-use lib.ListN.{length, getD, take, drop, length-append}
-use lib.Seq.{getD-take, take-at}
-use Rattle.laws.specs.Rows.{listed}
+use lib.ListN.{length, getD, take, drop}
+use lib.Seq.{getD-take}
 use Rattle.laws.specs.Sums.{sumOver, apart}
-use Rattle.laws.proofs.Lists.{part-length, part-at, length-listed, listed-at}
-use Rattle.laws.proofs.Sums.{same-terms, sum-parts, Summed}
+use Rattle.laws.proofs.Lists.{part-length, part-at}
+use Rattle.laws.proofs.Sums.{same-terms, sum-parts}
 use Rattle.comb.specs.declared.Kind.{Kind}
 use Rattle.comb.specs.declared.Kind.the-variants.{Byte, Pair, Cut, Green}
+use Rattle.comb.specs.declared.Tally.{Tally}
 use Rattle.comb.specs.Comb.{bendOf}
-use Rattle.comb.specs.Rows.{sizeOf, codeIn, bendIn, codesOf, lowIn, Rows}
+use Rattle.comb.specs.Rows.{sizeOf, codeIn, bendIn, codesOf, lowIn, Rows, tallied, Held}
+use Rattle.comb.proofs.Columns.{Tallied}
 
 -- a bend of three numbers is that of the codes which they are
 pub same-bend : {a b c up here down r : ℕ} → r ≡ apart (2 * b) (a + c) → a ≡ up → b ≡ here → c ≡ down → r ≡ apart (2 * here) (up + down)
@@ -77,36 +78,6 @@ module _
       (row-code kind bytes width stride x (y + 1) long (next-row y stride s) h l)
       (row-code kind bytes width stride x (y + 2) long (row-after-next y stride s) d l))
 
--- ---- a tile's bends in an array: its first n places, lent to be filled and lent again to be added up
-module _ (f : ℕ → ℕ) (rest : List ℕ) {n m : ℕ} {filled : List ℕ} (e : filled ≡ listed m f) (all : m ≡ n) where
-  in-place : filled ≡ listed n f
-  in-place = e ∙ ap (λ (k : ℕ). listed k f) all
-
-  places : length filled ≡ n
-  places = ap length in-place ∙ length-listed n f
-
-  abbrev lentAgain : List ℕ
-  lentAgain = take (n - 0) (drop 0 (filled ++ rest))
-
-  lent-again : lentAgain ≡ listed n f
-  lent-again =
-      let whole : n - 0 ≡ n = omega arith in
-      rw whole (take-at filled rest n places) ∙ in-place
-
-  pub array-holds : n ≤ length (filled ++ rest)
-  array-holds = rw length-append (omega (arith, places))
-
-  pub array-sum :
-      {r : ℕ} → (r ≡ sumOver (length lentAgain) (λ x. getD lentAgain x 0)) × (r ≤ 65535 * length lentAgain) →
-      (r ≡ sumOver n f) × (r ≤ 65535 * n)
-  array-sum {r} s =
-      let long : length lentAgain ≡ n = ap length lent-again ∙ length-listed n f in (
-        s .0
-            ∙ (λ i. sumOver (long i) (λ x. getD (lent-again i) x 0))
-            ∙ same-terms n _ f (λ x l. listed-at n f x 0 l),
-        omega (arith, s .1, long),
-      )
-
 -- ---- a tile lent as a part of its row, n columns from column x on
 -- in each of its columns it has the code that stands there in the row
 tile-code :
@@ -138,17 +109,20 @@ module _
 
   -- with its bends, those of the columns before it become those of the columns up to its end
   pub adds-tile :
-      {width sum more : ℕ} →
-      Summed 65535 (bendIn (Cut full) up here down) width sum x → x + n ≤ width →
-      (more ≡ sumOver n (bendIn (Cut full) upper inner lower)) × (more ≤ 65535 * n) →
-      Summed 65535 (bendIn (Cut full) up here down) width (sum + more) (x + n)
-  adds-tile {width} {sum} {more} s w m = record {
+      {width before : ℕ} {columns later : List ℕ} {t r : Tally} →
+      Tallied (bendIn (Cut full) up here down) width before columns t x → x + n ≤ width →
+      Held later r × (tallied later r ≡ tallied columns t + sumOver n (bendIn (Cut full) upper inner lower)) →
+      Tallied (bendIn (Cut full) up here down) width before later r (x + n)
+  adds-tile s w m = record {
     within = w;
-    small = omega (arith, s .small, m .1);
+    held = m .0;
     exact =
-        ap₂ (λ (a b : ℕ). a + b) (s .exact)
-        (m .0
-        ∙ same-terms n _ (λ k. bendIn (Cut full) up here down (x + k))
-        (λ k l. same-bend refl (tile-code full up x n k u l) (tile-code full here x n k h l) (tile-code full down x n k d l)))
-        ∙ sym (sum-parts x n (bendIn (Cut full) up here down));
+        omega (
+          arith,
+          s .exact,
+          m .1,
+          same-terms n (bendIn (Cut full) upper inner lower) (λ k. bendIn (Cut full) up here down (x + k))
+              (λ k l. same-bend refl (tile-code full up x n k u l) (tile-code full here x n k h l) (tile-code full down x n k d l)),
+          sum-parts x n (bendIn (Cut full) up here down),
+        );
   }

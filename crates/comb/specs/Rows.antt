@@ -5,10 +5,11 @@ use mathlib.Core.Bool.{cond}
 use mathlib.Core.List.{List}
 use lib.Dec.{leb, ltb}
 use lib.ListN.{length, getD, drop}
-use Rattle.laws.specs.Sums.{apart}
+use Rattle.laws.specs.Sums.{sumOver, apart}
 use Rattle.plane.specs.Plane.{fullCode}
 use Rattle.comb.specs.declared.Kind.{Kind}
 use Rattle.comb.specs.declared.Kind.the-variants.{Byte, Pair, Cut, Green}
+use Rattle.comb.specs.declared.Tally.{Tally}
 
 abbrev pub kindOf : ℕ → Kind
 kindOf depth = cond (leb depth 8) Byte (cond (ltb depth 16) (Cut (fullCode depth)) Pair)
@@ -49,3 +50,16 @@ pub record Rows (kind : Kind) (width : ℕ) (up here down : List ℕ) : Type 0 w
   pub below : length down ≡ width * sizeOf kind
   pub narrow : width ≤ 8192
   pub low : lowIn kind
+
+-- ---- bends added up in two places: the total of a `Tally`, and 256 columns of sixteen bits beside it
+abbrev pub tallied : List ℕ → Tally → ℕ
+tallied columns t = t .total + sumOver 256 (λ x. getD columns x 0)
+
+abbrev pub AllUpTo : ℕ → List ℕ → Type 0
+AllUpTo most columns = (x : ℕ) → getD columns x 0 ≤ most
+
+-- no column is above the number that the tally has for it
+pub record Held (columns : List ℕ) (t : Tally) : Type 0 where
+  pub long : length columns ≡ 256
+  pub upTo : AllUpTo (t .most) columns
+  pub fits : t .most ≤ 65535

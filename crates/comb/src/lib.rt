@@ -5,14 +5,14 @@
 //
 // Comb: how far each row stands out from the two beside it, summed over a picture.
 ghost use mathlib.Core.Path.{_≡_};
-ghost use Prim.Native.Nat.{_+_, _*_, _-_, _<_, _≤_, min};
+ghost use Prim.Native.Nat.{_+_, _*_, _-_, _<_, _≤_, _^_, min};
 ghost use lib.ListN.{length, getD, take, drop};
 ghost use Rattle.laws.specs.Refusal.{whenDone};
 ghost use Rattle.laws.specs.Rows.{listed};
 ghost use Rattle.laws.specs.Sums.{sumOver, apart};
 ghost use Rattle.comb.specs.Comb.{combOf, planeComb, rgbaComb};
 ghost use Rattle.comb.specs.Answer.{combedNo, combedValues, combNo, rgbaNo};
-ghost use Rattle.comb.specs.Rows.{kindOf, sizeOf, codeIn, bendIn, codesOf, lowIn, Rows};
+ghost use Rattle.comb.specs.Rows.{kindOf, sizeOf, codeIn, bendIn, codesOf, lowIn, Rows, tallied, Held, AllUpTo};
 ghost use Rattle.comb.specs.declared.Kind.the-variants.{Byte, Pair, Cut, Green};
 use plane::Layout;
 use plane::Shape;
@@ -32,6 +32,13 @@ enum Kind {
     Cut(u16),
     // Byte 1 of four.
     Green,
+}
+
+// Bends added up, in two places: 256 columns of sixteen bits, lent beside this, and `total`. No column is
+// above `most`.
+struct Tally {
+    total: u64,
+    most: u32,
 }
 
 // |2 * here - up - down|.
@@ -133,15 +140,15 @@ fn pairs_bend(up: &[u8], here: &[u8], down: &[u8], width: usize) -> u32
     sum
 }
 
-// The bends of a part of a row, one for each column, in sixteen bits: with no wider sum in its loop a
+// The bends of a part of a row, each added to its column, in sixteen bits: with no wider sum in its loop a
 // vector holds eight.
-fn cut_bends(bends: &mut [u16], up: &[u8], here: &[u8], down: &[u8], full: u16)
-    requires { ⌜ Rows (Cut full) (length (now bends)) (now up) (now here) (now down) ⌝ }
-    ensures { λ _. ⌜ now (bends .exit) ≡ listed (length (now (bends .entry))) (bendIn (Cut full) (now (up .entry)) (now (here .entry)) (now (down .entry))) ⌝ }
+fn add_bends(columns: &mut [u16], up: &[u8], here: &[u8], down: &[u8], full: u16)
+    requires { ⌜ Rows (Cut full) (length (now columns)) (now up) (now here) (now down) × AllUpTo (65535 - 2 * full) (now columns) ⌝ }
+    ensures { λ _. ⌜ now (columns .exit) ≡ listed (length (now (columns .entry))) (λ x. getD (now (columns .entry)) x 0 + bendIn (Cut full) (now (up .entry)) (now (here .entry)) (now (down .entry)) x) ⌝ }
 {
     let mut x = 0;
-    while x < bends.len() {
-        bends[x] = low_bend(
+    while x < columns.len() {
+        columns[x] += low_bend(
             cut_at(up, x, full),
             cut_at(here, x, full),
             cut_at(down, x, full),
@@ -150,34 +157,75 @@ fn cut_bends(bends: &mut [u16], up: &[u8], here: &[u8], down: &[u8], full: u16)
     }
 }
 
-fn wider(bend: u16) -> u32
-    ensures { λ r. ⌜ (r ≡ bend) × (r ≤ 65535) ⌝ }
+fn clear(columns: &mut [u16])
+    ensures { λ _. ⌜ now (columns .exit) ≡ listed (length (now (columns .entry))) (λ _. 0) ⌝ }
 {
-    bend as u32
-}
-
-// Bends added up.
-fn sum_of(bends: &[u16]) -> u32
-    requires { ⌜ length (now bends) ≤ 512 ⌝ }
-    ensures { λ r. ⌜ (r ≡ sumOver (length (now (bends .entry))) (λ x. getD (now (bends .entry)) x 0)) × (r ≤ 65535 * length (now (bends .entry))) ⌝ }
-{
-    let mut sum: u32 = 0;
     let mut x = 0;
-    while x < bends.len() {
-        sum += wider(bends[x]);
+    while x < columns.len() {
+        columns[x] = 0;
         x += 1;
     }
-    sum
 }
 
-// Those of a tile, which is a part of a row.
-fn tile_bend(up: &[u8], here: &[u8], down: &[u8], n: usize, full: u16) -> u32
-    requires { ⌜ Rows (Cut full) n (now up) (now here) (now down) × (n ≤ 512) ⌝ }
-    ensures { λ r. ⌜ (r ≡ sumOver n (bendIn (Cut full) (now (up .entry)) (now (here .entry)) (now (down .entry)))) × (r ≤ 65535 * n) ⌝ }
+fn wider(column: u16) -> u32
+    ensures { λ r. ⌜ (r ≡ column) × (r ≤ 65535) ⌝ }
 {
-    let mut bends = [0u16; 512];
-    cut_bends(&mut bends[0..n], up, here, down, full);
-    sum_of(&bends[0..n])
+    column as u32
+}
+
+// The columns added up. Two sums, since each addition waits for the one before it.
+fn sum_of(columns: &[u16]) -> u32
+    requires { ⌜ length (now columns) ≡ 256 ⌝ }
+    ensures { λ r. ⌜ r ≡ sumOver 256 (λ x. getD (now (columns .entry)) x 0) ⌝ }
+{
+    let mut left: u32 = 0;
+    let mut right: u32 = 0;
+    let mut x = 0;
+    while x < 128 {
+        left += wider(columns[x]);
+        right += wider(columns[128 + x]);
+        x += 1;
+    }
+    left + right
+}
+
+// Room for one bend more in each column, none of which is above `bend`: where there is none, the columns go
+// into the total.
+fn with_room(columns: &mut [u16], tally: Tally, bend: u32) -> Tally
+    requires { ⌜ Held (now columns) tally × (tallied (now columns) tally < 2 ^ 63) × (bend ≤ 65535) ⌝ }
+    ensures { λ r. ⌜ Held (now (columns .exit)) r × (tallied (now (columns .exit)) r ≡ tallied (now (columns .entry)) tally) × (r .most + bend ≤ 65535) ⌝ }
+{
+    if tally.most + bend <= 65535 {
+        return tally;
+    }
+    let total = tally.total + sum_of(columns) as u64;
+    clear(columns);
+    Tally {
+        total: total,
+        most: 0,
+    }
+}
+
+// The bends of a tile, which is a part of a row, go into the first of the columns.
+fn tile_bend(
+    columns: &mut [u16],
+    tally: Tally,
+    up: &[u8],
+    here: &[u8],
+    down: &[u8],
+    n: usize,
+    full: u16,
+) -> Tally
+    requires { ⌜ Rows (Cut full) n (now up) (now here) (now down) × (n ≤ 256) × Held (now columns) tally × (tallied (now columns) tally < 2 ^ 63) ⌝ }
+    ensures { λ r. ⌜ Held (now (columns .exit)) r × (tallied (now (columns .exit)) r ≡ tallied (now (columns .entry)) tally + sumOver n (bendIn (Cut full) (now (up .entry)) (now (here .entry)) (now (down .entry)))) ⌝ }
+{
+    let bend = 2 * wider(full);
+    let ready = with_room(columns, tally, bend);
+    add_bends(&mut columns[0..n], up, here, down, full);
+    Tally {
+        total: ready.total,
+        most: ready.most + bend,
+    }
 }
 
 // A tile's columns, or what is left at the edge.
@@ -187,16 +235,25 @@ fn lesser(side: usize, left: usize) -> usize
     if side <= left { side } else { left }
 }
 
-// In two passes over each tile, since a vector of a loop with this sum in it holds four.
-fn cuts_bend(up: &[u8], here: &[u8], down: &[u8], width: usize, full: u16) -> u32
-    requires { ⌜ Rows (Cut full) width (now up) (now here) (now down) ⌝ }
-    ensures { λ r. ⌜ r ≡ sumOver width (bendIn (Cut full) (now (up .entry)) (now (here .entry)) (now (down .entry))) ⌝ }
+fn cuts_bend(
+    columns: &mut [u16],
+    tally: Tally,
+    up: &[u8],
+    here: &[u8],
+    down: &[u8],
+    width: usize,
+    full: u16,
+) -> Tally
+    requires { ⌜ Rows (Cut full) width (now up) (now here) (now down) × Held (now columns) tally × (tallied (now columns) tally < 2 ^ 62) ⌝ }
+    ensures { λ r. ⌜ Held (now (columns .exit)) r × (tallied (now (columns .exit)) r ≡ tallied (now (columns .entry)) tally + sumOver width (bendIn (Cut full) (now (up .entry)) (now (here .entry)) (now (down .entry)))) × (sumOver width (bendIn (Cut full) (now (up .entry)) (now (here .entry)) (now (down .entry))) < 2 ^ 32) ⌝ }
 {
-    let mut sum: u32 = 0;
+    let mut so_far = tally;
     let mut x = 0;
     while x < width {
-        let n = lesser(512, width - x);
-        sum += tile_bend(
+        let n = lesser(256, width - x);
+        so_far = tile_bend(
+            columns,
+            so_far,
             row_at(up, 2 * x, 2 * n),
             row_at(here, 2 * x, 2 * n),
             row_at(down, 2 * x, 2 * n),
@@ -205,7 +262,7 @@ fn cuts_bend(up: &[u8], here: &[u8], down: &[u8], width: usize, full: u16) -> u3
         );
         x += n;
     }
-    sum
+    so_far
 }
 
 fn greens_bend(up: &[u8], here: &[u8], down: &[u8], width: usize) -> u32
@@ -221,15 +278,34 @@ fn greens_bend(up: &[u8], here: &[u8], down: &[u8], width: usize) -> u32
     sum
 }
 
-fn row_bend(kind: Kind, up: &[u8], here: &[u8], down: &[u8], width: usize) -> u32
-    requires { ⌜ Rows kind width (now up) (now here) (now down) ⌝ }
-    ensures { λ r. ⌜ r ≡ sumOver width (bendIn kind (now (up .entry)) (now (here .entry)) (now (down .entry))) ⌝ }
+fn plus(tally: Tally, sum: u32) -> Tally
+    requires { ⌜ tally .total < 2 ^ 62 ⌝ }
+    ensures { λ r. ⌜ (r .total ≡ tally .total + sum) × (r .most ≡ tally .most) ⌝ }
+{
+    Tally {
+        total: tally.total + sum as u64,
+        most: tally.most,
+    }
+}
+
+// The bends of a row, added to those before it. Only those of cut codes go by way of the columns.
+fn row_bend(
+    kind: Kind,
+    columns: &mut [u16],
+    tally: Tally,
+    up: &[u8],
+    here: &[u8],
+    down: &[u8],
+    width: usize,
+) -> Tally
+    requires { ⌜ Rows kind width (now up) (now here) (now down) × Held (now columns) tally × (tallied (now columns) tally < 2 ^ 62) ⌝ }
+    ensures { λ r. ⌜ Held (now (columns .exit)) r × (tallied (now (columns .exit)) r ≡ tallied (now (columns .entry)) tally + sumOver width (bendIn kind (now (up .entry)) (now (here .entry)) (now (down .entry)))) × (sumOver width (bendIn kind (now (up .entry)) (now (here .entry)) (now (down .entry))) < 2 ^ 32) ⌝ }
 {
     match kind {
-        Kind::Byte => bytes_bend(up, here, down, width),
-        Kind::Pair => pairs_bend(up, here, down, width),
-        Kind::Cut(full) => cuts_bend(up, here, down, width, full),
-        Kind::Green => greens_bend(up, here, down, width),
+        Kind::Byte => plus(tally, bytes_bend(up, here, down, width)),
+        Kind::Pair => plus(tally, pairs_bend(up, here, down, width)),
+        Kind::Cut(full) => cuts_bend(columns, tally, up, here, down, width, full),
+        Kind::Green => plus(tally, greens_bend(up, here, down, width)),
     }
 }
 
@@ -272,23 +348,26 @@ fn rows_bend(kind: Kind, plane: &[u8], width: usize, height: u16, stride: usize)
     ensures { λ r. ⌜ r ≡ combOf (codesOf kind (now (plane .entry)) stride) width height ⌝ }
 {
     let n = width * size_of(kind);
-    let mut total: u64 = 0;
+    let mut columns = [0u16; 256];
+    let mut tally = Tally { total: 0, most: 0 };
     let mut y: u16 = 0;
     let mut up = 0;
     while y + 2 < height {
         let here = up + stride;
         let down = here + stride;
-        total += row_bend(
+        tally = row_bend(
             kind,
+            &mut columns,
+            tally,
             row_at(plane, up, n),
             row_at(plane, here, n),
             row_at(plane, down, n),
             width,
-        ) as u64;
+        );
         up = here;
         y += 1;
     }
-    total
+    tally.total + sum_of(&columns) as u64
 }
 
 fn comb_no(width: u16, height: u16, depth: u8, stride: u32, bytes: usize) -> u8

@@ -232,6 +232,12 @@ module _ {A : Type 0} {f : ℕ → A} {old : List A} where
         ∙ rw (e, add-one) (sym (append-assoc (listed x f) (f x ∷ []) (drop (suc x) old)));
   }
 
+  -- the next place is still what it was
+  pub fill-reads : {new : List A} {x : ℕ} (d : A) → Filled f old new x → x < length old → getD new x d ≡ getD old x d
+  fill-reads {new} {x} d l h =
+      ap (λ (list : List A). getD list x d) (l .exact ∙ ap (λ (rest : List A). listed x f ++ rest) (drop-cons old x d h))
+      ∙ getD-at (listed x f) (getD old x d) (drop (suc x) old) d x (length-listed x f)
+
   pub fill-ends : {new : List A} {x : ℕ} → Filled f old new x → length old ≤ x → new ≡ listed (length old) f
   fill-ends {new} {x} l h =
       l .exact

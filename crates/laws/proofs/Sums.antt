@@ -26,6 +26,12 @@ sum-parts m (suc n) f =
     ∙ ap (λ (front : ℕ). front + f (m + n)) (sum-parts m n f)
     ∙ add-assoc (sumOver m f) (sumOver n (λ k. f (m + k))) (f (m + n))
 
+-- the sum of two terms a place
+pub sum-of-both : (n : ℕ) (f g : ℕ → ℕ) → sumOver n (λ k. f k + g k) ≡ sumOver n f + sumOver n g
+unfolding sumOver
+sum-of-both zero f g = refl
+sum-of-both (suc n) f g = omega (arith, sum-of-both n f g)
+
 -- ---- bounds
 -- a sum of terms none of which is above `most`
 pub sum-at-most : (n most : ℕ) (f : ℕ → ℕ) → ((k : ℕ) → k < n → f k ≤ most) → sumOver n f ≤ n * most

@@ -1,23 +1,24 @@
--- The loop keeps `Summed` of the columns passed.
+-- The loop keeps `Tallied` of the columns passed.
 use Prim.Native.Nat.{_-_}
 use native.Mathlib.Omega.{arith}
 use denote.Ref.{now}
 use borrow.Author.Needs.{needs}
-use Rattle.laws.proofs.Sums.{Summed, starts, ends}
-use Rattle.comb.specs.Rows.{bendIn}
+use Rattle.comb.specs.Rows.{bendIn, tallied}
 use Rattle.comb.specs.declared.Kind.the-variants.{Cut}
+use Rattle.comb.proofs.Columns.{cuts-at-most, Tallied, tally-starts, tally-ends}
 use Rattle.comb.proofs.Rows.{tile-rows, adds-tile}
 use Rattle.comb.proofs.cuts_bend.Statement.{statement}
 use Rattle.comb.proofs.cuts_bend.Tie as tie
 
 abbrev Inv-loop : tie.InvT-loop
-Inv-loop up here down width full sum₀ x₀ sum x = Summed 65535 (bendIn (Cut full) up here down) width sum x
+Inv-loop columns₀ up here down width full so-far₀ x₀ columns so-far x =
+    Tallied (bendIn (Cut full) up here down) width (tallied columns₀ so-far₀) columns so-far x
 
 abbrev μ-loop : tie.MeasureT-loop
-μ-loop up here down width full sum₀ x₀ sum x = width - x
+μ-loop columns₀ up here down width full so-far₀ x₀ columns so-far x = width - x
 
 loop-holds : tie.Need-loop-holds Inv-loop μ-loop
-loop-holds c = starts _ _ _
+loop-holds c = tally-starts (c .before .before .before .before .pre .1)
 
 sub-lesser : tie.Need-sub-lesser Inv-loop μ-loop
 sub-lesser c = omega arith
@@ -54,17 +55,17 @@ row-at-requires-3 c κs = omega arith
 
 tile-bend-requires : tie.Need-tile-bend-requires Inv-loop μ-loop
 tile-bend-requires c κs =
-    let tile = c .before .before .before in
+    let tile = c .before .before .before .before in
     let loop = tile .before .before in
-    let start = loop .before .before .before .before in
-    let a = start .args in (
+    let start = loop .before .before .before .before .before in
+    let a = start .args in
+    let small = cuts-at-most (a .full) (now (a .up)) (now (a .here)) (now (a .down)) (a .width) (loop .loop .x) (start .pre .0) (loop .loop .inv .within) in (
       tile-rows (a .full) (now (a .up)) (now (a .here)) (now (a .down)) (loop .loop .x) (tile .lesser .result)
-          (c .before .before .row-at .ensures) (c .before .row-at2 .ensures) (c .row-at3 .ensures) (start .pre) (omega arith),
+          (c .before .before .row-at .ensures) (c .before .row-at2 .ensures) (c .row-at3 .ensures) (start .pre .0) (omega arith),
       omega arith,
+      loop .loop .inv .held,
+      omega (arith, small, loop .loop .inv .exact, start .pre .2),
     )
-
-add-sum : tie.Need-add-sum Inv-loop μ-loop
-add-sum c = omega arith
 
 add-x : tie.Need-add-x Inv-loop μ-loop
 add-x c = omega arith
@@ -74,14 +75,23 @@ loop-less c = omega arith
 
 loop-again : tie.Need-loop-again Inv-loop μ-loop
 loop-again c =
-    let tile = c .before .before .before .before in
+    let rows = c .before .before .before in
+    let tile = rows .before .before .before .before in
     let loop = tile .before .before in
-    let a = loop .before .before .before .before .args in
+    let a = loop .before .before .before .before .before .args in
     adds-tile (a .full) (now (a .up)) (now (a .here)) (now (a .down)) (loop .loop .x) (tile .lesser .result)
-    (c .before .before .before .row-at .ensures) (c .before .before .row-at2 .ensures) (c .before .row-at3 .ensures) (loop .loop .inv) (omega arith) (c .tile-bend .ensures)
+    (rows .before .before .row-at .ensures) (rows .before .row-at2 .ensures) (rows .row-at3 .ensures) (loop .loop .inv) (omega arith)
+    (c .before .before .tile-bend .ensures)
+
+same-length : tie.Need-same-length Inv-loop μ-loop
+same-length c = search needs
 
 returns : tie.Need-returns Inv-loop μ-loop
-returns c = ends (c .before .loop .inv) (omega arith)
+returns c =
+    let start = c .before .before .before .before .before .before in
+    let a = start .args in
+    let all = tally-ends (c .before .loop .inv) (omega arith) in
+    (all .0, all .1, cuts-at-most (a .full) (now (a .up)) (now (a .here)) (now (a .down)) (a .width) (a .width) (start .pre .0) (omega arith))
 
 pub cuts-bend-spec : {M : Type 1} → statement M
 cuts-bend-spec =
@@ -102,8 +112,8 @@ cuts-bend-spec =
     mul-row-at-6
     row-at-requires-3
     tile-bend-requires
-    add-sum
     add-x
     loop-less
     loop-again
+    same-length
     returns)

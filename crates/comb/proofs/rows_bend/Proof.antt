@@ -1,25 +1,28 @@
--- The loop keeps `Summed` of the rows passed, and where the row above starts.
+-- The loop keeps `Summed` of the rows passed, that the tally holds its columns, and where the row above starts.
 use Prim.Native.Nat.{ℕ, _+_, _*_, _-_, _≤_}
-use mathlib.Core.Path.{_≡_, sym, ap}
+use mathlib.Core.Path.{_≡_, refl, sym, ap, _∙_}
 use native.Mathlib.Nat.{zero-mul, mul-le-mul}
 use native.Mathlib.Omega.{arith}
 use lib.ListN.{length}
 use denote.Ref.{now}
 use borrow.Author.Needs.{needs}
 use Rattle.laws.specs.Sums.{sumOver}
-use Rattle.laws.proofs.Sums.{Summed, starts, adds, ends}
+use Rattle.laws.proofs.Sums.{Summed, ends}
 use Rattle.comb.specs.Comb.{combOf, bendOf}
-use Rattle.comb.specs.Rows.{sizeOf, codesOf}
+use Rattle.comb.specs.Rows.{sizeOf, bendIn, codesOf, tallied, Held}
+use Rattle.comb.proofs.Columns.{nothing-held, nothing-tallied, adds-row}
 use Rattle.comb.proofs.Rows.{next-row, two-below, lent-rows, lent-bends}
 use Rattle.comb.proofs.rows_bend.Statement.{statement}
 use Rattle.comb.proofs.rows_bend.Tie as tie
 
 abbrev Inv-loop : tie.InvT-loop
-Inv-loop kind plane width height stride n total₀ y₀ up₀ total y up =
-    Summed 4294967296 (λ y. sumOver width (λ x. bendOf (codesOf kind plane stride) x y)) (height - 2) total y × (up ≡ y * stride)
+Inv-loop kind plane width height stride n columns₀ tally₀ y₀ up₀ columns tally y up =
+    Summed 4294967296 (λ y. sumOver width (λ x. bendOf (codesOf kind plane stride) x y)) (height - 2) (tallied columns tally) y
+    × Held columns tally
+    × (up ≡ y * stride)
 
 abbrev μ-loop : tie.MeasureT-loop
-μ-loop kind plane width height stride n total₀ y₀ up₀ total y up = height - y
+μ-loop kind plane width height stride n columns₀ tally₀ y₀ up₀ columns tally y up = height - y
 
 size-of-requires : tie.Need-size-of-requires Inv-loop μ-loop
 size-of-requires c κs = search needs
@@ -28,7 +31,7 @@ mul-n : tie.Need-mul-n Inv-loop μ-loop
 mul-n c = omega (arith, mul-le-mul (c .before .before .pre .0) (c .size-of .ensures .1))
 
 loop-holds : tie.Need-loop-holds Inv-loop μ-loop
-loop-holds c = (starts _ _ _, sym (zero-mul _))
+loop-holds c = (nothing-tallied _ _ _, nothing-held, sym (zero-mul _))
 
 -- how long a row is
 row-size : (c : tie.After-size-of Inv-loop μ-loop) → let a = c .before .before .args in a .width * c .size-of .result ≡ a .width * sizeOf (a .kind)
@@ -52,29 +55,30 @@ add-here c = omega (arith, within c)
 add-down : tie.Need-add-down Inv-loop μ-loop
 add-down c = omega (arith, within c)
 
+slice-aggregate-row-bend : tie.Need-slice-aggregate-row-bend Inv-loop μ-loop
+slice-aggregate-row-bend c = sym (c .before .before .loop .inv .1 .long)
+
 row-at-requires : tie.Need-row-at-requires Inv-loop μ-loop
-row-at-requires c κs = omega (arith, within c)
+row-at-requires c κs = omega (arith, within (c .before))
 
 row-at-requires-2 : tie.Need-row-at-requires-2 Inv-loop μ-loop
-row-at-requires-2 c κs = omega (arith, within (c .before))
+row-at-requires-2 c κs = omega (arith, within (c .before .before))
 
 row-at-requires-3 : tie.Need-row-at-requires-3 Inv-loop μ-loop
-row-at-requires-3 c κs = omega (arith, within (c .before .before))
+row-at-requires-3 c κs = omega (arith, within (c .before .before .before))
 
 row-bend-requires : tie.Need-row-bend-requires Inv-loop μ-loop
 row-bend-requires c κs =
-    let turn = c .before .before .before in
+    let turn = c .before .before .before .before in
     let start = turn .before .before .before .before in
     let a = start .args in
-    lent-rows (a .kind) (now (a .plane)) (a .width) (a .stride) (turn .before .loop .y)
-    (row-size (turn .before .before)) (turn .before .loop .inv .1)
-    (c .before .before .row-at .ensures) (c .before .row-at2 .ensures) (c .row-at3 .ensures) (start .pre .0) (start .pre .2) (within turn)
-
-cast-total : tie.Need-cast-total Inv-loop μ-loop
-cast-total c = omega arith
-
-add-total : tie.Need-add-total Inv-loop μ-loop
-add-total c = omega arith
+    let inv = turn .before .loop .inv in (
+      lent-rows (a .kind) (now (a .plane)) (a .width) (a .stride) (turn .before .loop .y)
+          (row-size (turn .before .before)) (inv .2)
+          (c .before .before .row-at .ensures) (c .before .row-at2 .ensures) (c .row-at3 .ensures) (start .pre .0) (start .pre .2) (within turn),
+      inv .1,
+      omega (arith, inv .0 .small),
+    )
 
 add-y : tie.Need-add-y Inv-loop μ-loop
 add-y c = omega arith
@@ -84,19 +88,41 @@ loop-less c = omega arith
 
 loop-again : tie.Need-loop-again Inv-loop μ-loop
 loop-again c =
-    let turn = c .before .before .before .before in
+    let row = c .before in
+    let turn = row .before .before .before .before .before in
     let a = turn .before .before .before .before .args in
-    let l = turn .before .loop in (
-      adds (l .inv .0) (omega arith) (omega arith)
+    let l = turn .before .loop in
+    let one = row .before .before .before .row-at in
+    let two = row .before .before .row-at2 in
+    let three = row .before .row-at3 in (
+      adds-row (sumOver (a .width) (bendIn (a .kind) (now (one .result)) (now (two .result)) (now (three .result)))) (l .inv .0) (omega (arith, turn .loop-test .taken)) (row .row-bend .ensures .2)
           (lent-bends (a .kind) (now (a .plane)) (a .width) (a .stride) (l .y)
-          (row-size (turn .before .before)) (l .inv .1)
-          (c .before .before .before .row-at .ensures) (c .before .before .row-at2 .ensures) (c .before .row-at3 .ensures) (c .row-bend .ensures)),
-      next-row (l .y) (a .stride) (l .inv .1),
+          (row-size (turn .before .before)) (l .inv .2)
+          (one .ensures) (two .ensures) (three .ensures) refl)
+          (row .row-bend .ensures .1),
+      row .row-bend .ensures .0,
+      next-row (l .y) (a .stride) (l .inv .2),
     )
+
+slice-aggregate-sum-of : tie.Need-slice-aggregate-sum-of Inv-loop μ-loop
+slice-aggregate-sum-of c = sym (c .before .before .loop .inv .1 .long)
+
+sum-of-requires : tie.Need-sum-of-requires Inv-loop μ-loop
+sum-of-requires c κs = c .before .before .loop .inv .1 .long
+
+cast-result : tie.Need-cast-result Inv-loop μ-loop
+cast-result c = omega arith
+
+add-result : tie.Need-add-result Inv-loop μ-loop
+add-result c =
+    let l = c .before .before .before .before .loop in
+    omega (arith, l .inv .0 .small, l .inv .0 .within, c .before .sum-of .ensures)
 
 returns : tie.Need-returns Inv-loop μ-loop
 unfolding combOf
-returns c = ends (c .before .loop .inv .0) (omega arith)
+returns c =
+    let l = c .before .before .before .before .loop in
+    ap (λ (k : ℕ). l .tally .total + k) (c .before .sum-of .ensures) ∙ ends (l .inv .0) (omega (arith, c .before .before .before .loop-test .left))
 
 pub rows-bend-spec : {M : Type 1} → statement M
 rows-bend-spec =
@@ -110,13 +136,16 @@ rows-bend-spec =
     add-loop
     add-here
     add-down
+    slice-aggregate-row-bend
     row-at-requires
     row-at-requires-2
     row-at-requires-3
     row-bend-requires
-    cast-total
-    add-total
     add-y
     loop-less
     loop-again
+    slice-aggregate-sum-of
+    sum-of-requires
+    cast-result
+    add-result
     returns)

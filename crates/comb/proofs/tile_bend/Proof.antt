@@ -1,63 +1,80 @@
-use Prim.Native.Nat.{ℕ, _-_}
-use mathlib.Core.Path.{_≡_}
-use lib.ListN.{length, take, drop, replicate, length-replicate}
+use Prim.Native.Nat.{ℕ, _+_, _-_}
+use mathlib.Core.Path.{ap, _∙_}
+use native.Mathlib.Omega.{arith}
 use denote.Ref.{now}
 use borrow.Author.Needs.{needs}
+use Rattle.laws.specs.Sums.{sumOver}
+use Rattle.laws.proofs.Lists.{front-length}
 use Rattle.comb.specs.Rows.{bendIn}
 use Rattle.comb.specs.declared.Kind.the-variants.{Cut}
-use Rattle.laws.proofs.Lists.{front-length}
-use Rattle.comb.proofs.Rows.{array-holds, array-sum}
+use Rattle.comb.proofs.Columns.{cut-at-most, lent-upTo, grown-tally}
 use Rattle.comb.proofs.tile_bend.Statement.{statement}
 use Rattle.comb.proofs.tile_bend.Tie as tie
 
 abbrev bends : tie.Start → ℕ → ℕ
 bends s = bendIn (Cut (s .args .full)) (now (s .args .up)) (now (s .args .here)) (now (s .args .down))
 
--- as many places are lent as the tile has columns
-lent : (s : tie.Start) → length {A = ℕ} (take (s .args .n - 0) (drop 0 (replicate 512 0))) ≡ s .args .n
-lent s = front-length (replicate 512 0) (s .args .n) (rw (length-replicate {A = ℕ} 512 0) (s .pre .1))
+wider-requires : tie.Need-wider-requires
+wider-requires c κs = search needs
 
-sub-cut-bends : tie.Need-sub-cut-bends
-sub-cut-bends c = search needs
+mul-bend : tie.Need-mul-bend
+mul-bend c = search needs
 
-part-bends-start : tie.Need-part-bends-start
-part-bends-start c = search needs
+with-room-requires : tie.Need-with-room-requires
+with-room-requires c κs = search needs
 
-part-bends-end : tie.Need-part-bends-end
-part-bends-end c = search needs
+sub-add-bends : tie.Need-sub-add-bends
+sub-add-bends c = search needs
 
-cut-bends-requires : tie.Need-cut-bends-requires
-cut-bends-requires c κs = search needs
+part-add-bends-start : tie.Need-part-add-bends-start
+part-add-bends-start c = search needs
 
-sub-sum-of : tie.Need-sub-sum-of
-sub-sum-of c = search needs
+part-add-bends-end : tie.Need-part-add-bends-end
+part-add-bends-end c = search needs
 
-part-sum-of-start : tie.Need-part-sum-of-start
-part-sum-of-start c = search needs
+add-bends-requires : tie.Need-add-bends-requires
+add-bends-requires c κs =
+    let room = c .before .before .before in
+    let wide = room .before .before in
+    let start = wide .before .before .before .before .before in
+    let columns = room .with-room .last .0 in
+    let a = start .args in
+    let held = room .with-room .ensures .0 in
+    let long = front-length columns (a .n) (omega (arith, held .long, start .pre .1)) in (
+      rw long (start .pre .0),
+      lent-upTo columns (a .n - 0) (held .upTo) (omega (arith, room .with-room .ensures .2, wide .wider .ensures .0)),
+    )
 
-part-sum-of-end : tie.Need-part-sum-of-end
-part-sum-of-end c =
-    let start = c .before .before .before .before .before .before .before in
-    array-holds (bends start) _ (c .before .before .cut-bends .ensures) (lent start)
+add-t10 : tie.Need-add-t10
+add-t10 c = search needs
 
-sum-of-requires : tie.Need-sum-of-requires
-sum-of-requires c κs = search needs
+same-length : tie.Need-same-length
+same-length c = search needs
 
 returns : tie.Need-returns
 returns c =
-    let start = c .before .before .before .before .before .before .before .before .before in
-    array-sum (bends start) _ (c .before .before .before .before .cut-bends .ensures) (lent start) (c .sum-of .ensures)
+    let room = c .before .before .before .before .before .before .before in
+    let wide = room .before .before in
+    let start = wide .before .before .before .before .before in
+    let a = start .args in
+    let held = room .with-room .ensures .0 in
+    let grown =
+    grown-tally (bends start) (room .with-room .last .0) (a .n) (omega (arith, held .long, start .pre .1)) (c .before .before .before .add-bends .ensures)
+    held (room .with-room .ensures .2)
+    (λ x. omega (arith, cut-at-most (a .full) (now (a .up)) (now (a .here)) (now (a .down)) x, wide .wider .ensures .0)) in
+    (grown .0, grown .1 ∙ ap (λ (k : ℕ). k + sumOver (a .n) (bends start)) (room .with-room .ensures .1))
 
 pub tile-bend-spec : {M : Type 1} → statement M
 tile-bend-spec =
     tie.close
     (tie.spec
-    sub-cut-bends
-    part-bends-start
-    part-bends-end
-    cut-bends-requires
-    sub-sum-of
-    part-sum-of-start
-    part-sum-of-end
-    sum-of-requires
+    wider-requires
+    mul-bend
+    with-room-requires
+    sub-add-bends
+    part-add-bends-start
+    part-add-bends-end
+    add-bends-requires
+    add-t10
+    same-length
     returns)
