@@ -11,7 +11,7 @@ ghost use Prim.Native.Nat.{_+_, _*_, _-_, _/_, _<_, _≤_, _^_, min, max};
 ghost use lib.ListN.{getD};
 ghost use Rattle.laws.specs.Refusal.{lowest};
 ghost use Rattle.float.specs.Bounds.{Unit};
-ghost use Rattle.plane.specs.Plane.{components, component, alone, sampleBytes, goodShape, planeBytes, gridShape, startOf, storedAt, biplanar, shift, codeOf, fullCode, valueOf, agree, half, chromaAgrees, planarOf, biplanarOf};
+ghost use Rattle.plane.specs.Plane.{components, component, alone, sampleBytes, goodShape, planeBytes, gridShape, startOf, biplanar, shift, codeOf, fullCode, valueOf, agree, half, chromaAgrees, planarOf, biplanarOf};
 ghost use Rattle.plane.specs.Coordinates.{inReach, inside, held, parityOf, biasOf, unbiased};
 ghost use Rattle.plane.specs.Answer.{readTests, GivesCode, GivesValue};
 
@@ -172,8 +172,8 @@ pub fn shape_of(grid: Grid) -> Shape
 }
 
 // y rows of a stride, and what stands before a sample in its own row.
-fn rows(y: u16, stride: u32, more: usize) -> usize
-    requires { ⌜ more < 2 ^ 34 ⌝ }
+fn rows(y: u32, stride: u32, more: usize) -> usize
+    requires { ⌜ (y ≤ 65535) × (more < 2 ^ 34) ⌝ }
     ensures { λ r. ⌜ (r ≡ y * stride + more) × (r < 2 ^ 49) ⌝ }
 {
     (y as usize) * (stride as usize) + more
@@ -190,13 +190,16 @@ pub fn plane_bytes(s: Shape) -> usize
 {
     let layout = s.layout;
     rows(
-        less_one(s.height),
+        less_one(s.height) as u32,
         s.stride,
         row_bytes(s.width as u32, s.depth as u32, layout),
     )
 }
 
-fn start_of(s: Shape, x: u16, y: u16) -> usize
+// Columns, rows and codes are held in 32 bits: of sixteen, the machine code clears the upper half again at
+// each step.
+fn start_of(s: Shape, x: u32, y: u32) -> usize
+    requires { ⌜ (x ≤ 65535) × (y ≤ 65535) ⌝ }
     ensures { λ r. ⌜ (r ≡ startOf s x y) × (r < 2 ^ 49) ⌝ }
 {
     let layout = s.layout;
@@ -204,36 +207,24 @@ fn start_of(s: Shape, x: u16, y: u16) -> usize
     rows(y, s.stride, times(lane, sample_bytes(s.depth as u32)))
 }
 
-fn wide(byte: u8) -> u16
+fn wide(byte: u8) -> u32
     ensures { λ r. ⌜ (r ≡ byte) × (r < 256) ⌝ }
 {
-    byte as u16
+    byte as u32
 }
 
-fn byte_at(plane: &[u8], i: usize) -> u16
+fn byte_at(plane: &[u8], i: usize) -> u32
     ensures { λ r. ⌜ (r ≡ getD (now (plane .entry)) i 0) × (r < 256) ⌝ }
 {
     if i < plane.len() { wide(plane[i]) } else { 0 }
 }
 
-fn stored_at(plane: &[u8], depth: u8, i: usize) -> u16
+// Two bytes, the low one first.
+fn pair_at(plane: &[u8], i: usize) -> u32
     requires { ⌜ i < 2 ^ 49 ⌝ }
-    ensures { λ r. ⌜ r ≡ storedAt (now (plane .entry)) depth i ⌝ }
+    ensures { λ r. ⌜ (r ≡ getD (now (plane .entry)) i 0 + 256 * getD (now (plane .entry)) (i + 1) 0) × (r ≤ 65535) ⌝ }
 {
-    if depth <= 8 {
-        return byte_at(plane, i);
-    }
     byte_at(plane, i) + 256 * byte_at(plane, i + 1)
-}
-
-pub fn shift_of(layout: Layout, depth: u8) -> u8
-    ensures { λ r. ⌜ (r ≡ shift layout depth) × (r ≤ 7) ⌝ }
-{
-    if is_biplanar(layout) & (9 <= depth) {
-        if depth <= 16 { 16 - depth } else { 0 }
-    } else {
-        0
-    }
 }
 
 fn within_depths(depth: u8) -> u32
@@ -245,18 +236,42 @@ fn within_depths(depth: u8) -> u32
     if 16 < depth { 16 } else { depth as u32 }
 }
 
-// 2^depth - 1, the largest code of a depth.
+// How many of sixteen bits a depth leaves. Shift and largest code both follow from it, and a read asks once.
+fn spare_bits(depth: u8) -> u32
+    ensures { λ r. ⌜ (r ≡ 16 - max 8 (min depth 16)) × (r ≤ 8) ⌝ }
+{
+    16 - within_depths(depth)
+}
+
+fn shift_by(layout: Layout, depth: u8, spare: u32) -> u32
+    requires { ⌜ spare ≡ 16 - max 8 (min depth 16) ⌝ }
+    ensures { λ r. ⌜ (r ≡ shift layout depth) × (r ≤ 7) ⌝ }
+{
+    if is_biplanar(layout) & (9 <= depth) {
+        spare
+    } else {
+        0
+    }
+}
+
+pub fn shift_of(layout: Layout, depth: u8) -> u8
+    ensures { λ r. ⌜ (r ≡ shift layout depth) × (r ≤ 7) ⌝ }
+{
+    shift_by(layout, depth, spare_bits(depth)) as u8
+}
+
+// 2^depth - 1, the largest code of a depth that leaves so many bits.
+fn full_by(spare: u32) -> u32
+    requires { ⌜ spare ≤ 8 ⌝ }
+    ensures { λ r. ⌜ (r ≡ 2 ^ (16 - spare) - 1) × (r ≤ 65535) ⌝ }
+{
+    65535 >> spare
+}
+
 pub fn full_code(depth: u8) -> u16
     ensures { λ r. ⌜ r ≡ fullCode depth ⌝ }
 {
-    ((1u32 << within_depths(depth)) - 1) as u16
-}
-
-fn shifted(word: u16, right: u8) -> u16
-    requires { ⌜ right ≤ 7 ⌝ }
-    ensures { λ r. ⌜ r ≡ word / 2 ^ right ⌝ }
-{
-    word >> right
+    full_by(spare_bits(depth)) as u16
 }
 
 // A capture card may leave stray bits above a code: a word above the largest code counts as that.
@@ -266,31 +281,56 @@ pub fn cut(word: u16, full: u16) -> u16
     if word < full { word } else { full }
 }
 
-// A code, of any shape; 0 past the end. A byte is neither shifted nor above the largest code.
+// The same of a word that is held in 32 bits.
+fn cut_wide(word: u32, largest: u32) -> u32
+    ensures { λ r. ⌜ r ≡ min word largest ⌝ }
+{
+    if word < largest { word } else { largest }
+}
+
+fn shifted(word: u32, right: u32) -> u32
+    requires { ⌜ right ≤ 7 ⌝ }
+    ensures { λ r. ⌜ r ≡ word / 2 ^ right ⌝ }
+{
+    word >> right
+}
+
+// A byte is neither shifted nor above the largest code.
+fn code_wide(plane: &[u8], s: Shape, x: u32, y: u32) -> u32
+    requires { ⌜ (x ≤ 65535) × (y ≤ 65535) ⌝ }
+    ensures { λ r. ⌜ (r ≡ codeOf (now (plane .entry)) s x y) × (r ≤ 65535) ⌝ }
+{
+    let layout = s.layout;
+    let i = start_of(s, x, y);
+    let spare = spare_bits(s.depth);
+    if s.depth <= 8 {
+        return byte_at(plane, i);
+    }
+    let word = pair_at(plane, i);
+    let right = shift_by(layout, s.depth, spare);
+    let full = full_by(spare);
+    cut_wide(shifted(word, right), full)
+}
+
+// A code, of any shape; 0 past the end.
 pub fn code_at(plane: &[u8], s: Shape, x: u16, y: u16) -> u16
     ensures { λ r. ⌜ r ≡ codeOf (now (plane .entry)) s x y ⌝ }
 {
-    let layout = s.layout;
-    let stored = stored_at(plane, s.depth, start_of(s, x, y));
-    if s.depth <= 8 {
-        return stored;
-    }
-    let right = shift_of(layout, s.depth);
-    cut(shifted(stored, right), full_code(s.depth))
+    code_wide(plane, s, x as u32, y as u32) as u16
 }
 
 // The coordinate c - 65,544 brought into 0 .. size - 1.
-fn hold(size: u16, c: u32) -> u16
-    ensures { λ r. ⌜ r ≡ held size (unbiased c) ⌝ }
+fn hold(size: u16, c: u32) -> u32
+    ensures { λ r. ⌜ (r ≡ held size (unbiased c)) × (r ≤ 65535) ⌝ }
 {
     if c < BIAS {
         return 0;
     }
     let at = c - BIAS;
     if at < size as u32 {
-        at as u16
+        at
     } else {
-        less_one(size)
+        less_one(size) as u32
     }
 }
 
@@ -300,7 +340,7 @@ pub fn value_at(plane: &[u8], s: Shape, x: u32, y: u32) -> f32
 {
     let column = hold(s.width, x);
     let row = hold(s.height, y);
-    (code_at(plane, s, column, row) as f32) / (full_code(s.depth) as f32)
+    (code_wide(plane, s, column, row) as f32) / (full_by(spare_bits(s.depth)) as f32)
 }
 
 pub fn in_reach(x: i32) -> bool

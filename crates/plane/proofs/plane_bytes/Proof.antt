@@ -5,6 +5,9 @@ use Rattle.plane.proofs.plane_bytes.Tie as tie
 less-one-requires : tie.Need-less-one-requires
 less-one-requires c κs = search needs
 
+cast-rows : tie.Need-cast-rows
+cast-rows c = search needs
+
 cast-row-bytes : tie.Need-cast-row-bytes
 cast-row-bytes c = search needs
 
@@ -25,6 +28,7 @@ plane-bytes-spec =
     tie.close
     (tie.spec
     less-one-requires
+    cast-rows
     cast-row-bytes
     cast-row-bytes-2
     row-bytes-requires

@@ -1,12 +1,15 @@
-use mathlib.Core.Path.{_≡_, sym, subst}
+use mathlib.Core.Path.{_≡_, sym, subst, _∙_}
 use mathlib.Core.List.{List}
-use Prim.Native.Nat.{ℕ}
+use Prim.Native.Nat.{ℕ, _^_}
+use native.Mathlib.Omega.{arith}
+use lib.Dec.{le→leb}
 use lib.IntN.{ℤ}
-use lib.Ieee.{Float}
+use lib.Ieee.{Float, inFloat}
 use Rattle.float.specs.Bounds.{Unit}
 use Rattle.plane.specs.declared.Shape.{Shape}
-use Rattle.plane.specs.Plane.{valueOf}
+use Rattle.plane.specs.Plane.{fullCode, valueOf}
 use Rattle.plane.proofs.Claims.{value-in-unit}
+use Rattle.plane.proofs.Full.{full-by-spare}
 use Rattle.plane.specs.Coordinates.{unbiased}
 use denote.Ref.{now}
 use borrow.Author.Needs.{needs}
@@ -22,23 +25,33 @@ hold-requires c κs = search needs
 hold-requires-2 : tie.Need-hold-requires-2
 hold-requires-2 c κs = search needs
 
-code-at-requires : tie.Need-code-at-requires
-code-at-requires c κs = search needs
+code-wide-requires : tie.Need-code-wide-requires
+code-wide-requires c κs = search needs
 
 int-to-float-result : tie.Need-int-to-float-result
-int-to-float-result c = search needs
+unfolding inFloat
+int-to-float-result c = le→leb (c .before .code-wide .result) (2 ^ 24) (omega arith)
 
-full-code-requires : tie.Need-full-code-requires
-full-code-requires c κs = search needs
+spare-bits-requires : tie.Need-spare-bits-requires
+spare-bits-requires c κs = search needs
+
+full-by-requires : tie.Need-full-by-requires
+full-by-requires c κs = search needs
 
 int-to-float-result-2 : tie.Need-int-to-float-result-2
-int-to-float-result-2 c = search needs
+unfolding inFloat
+int-to-float-result-2 c = le→leb (c .before .full-by .result) (2 ^ 24) (omega arith)
+
+-- the divisor
+full : (c : tie.After-full-by) → c .full-by .result ≡ fullCode (c .before .before .before .before .before .before .before .args .s .depth)
+full c = c .full-by .ensures .0 ∙ full-by-spare _ (c .before .spare-bits .ensures .0)
 
 returns : tie.Need-returns
 unfolding valueOf
 returns c =
-    let a = c .before .before .before .before .before .before .before .args in
+    let a = c .before .before .before .before .before .before .before .before .args in
+    let e = full (c .before) in
     in-unit (now (a .plane)) (a .s) (unbiased (a .x)) (unbiased (a .y)) cc
 
 pub value-at-spec : {M : Type 1} → statement M
-value-at-spec = tie.close (tie.spec hold-requires hold-requires-2 code-at-requires int-to-float-result full-code-requires int-to-float-result-2 returns)
+value-at-spec = tie.close (tie.spec hold-requires hold-requires-2 code-wide-requires int-to-float-result spare-bits-requires full-by-requires int-to-float-result-2 returns)
