@@ -19,11 +19,12 @@ pub unbiased-from : (c : ℕ) → 65544 ≤ c → unbiased c ≡ pos (c - 65544)
 unbiased-from c h = simp (le-ltb c 65544 h)
 
 -- ---- clamped into the plane
-pub held-below : (size c : ℕ) → c < 65544 → held size (unbiased c) ≡ 0
-held-below size c h = rw (unbiased-below c h)
-
-pub held-from : (size c : ℕ) → 65544 ≤ c → held size (unbiased c) ≡ min (c - 65544) (size - 1)
-held-from size c h = rw (unbiased-from c h)
+pub held-is : (size c : ℕ) → held size (unbiased c) ≡ min (c - 65544) (size - 1)
+held-is size c = go (ltb c 65544) refl
+  where
+    go : (b : Bool) → ltb c 65544 ≡ b → held size (unbiased c) ≡ min (c - 65544) (size - 1)
+    go true h = rw (unbiased-below c (ltb-true c 65544 h)) (omega (arith, ltb-true c 65544 h))
+    go false h = rw (unbiased-from c (ltb-false c 65544 h)) refl
 
 -- ---- a coordinate within reach
 pub record Reached (x : ℤ) (c : ℕ) : Type 0 where

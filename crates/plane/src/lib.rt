@@ -323,10 +323,7 @@ pub fn code_at(plane: &[u8], s: Shape, x: u16, y: u16) -> u16
 fn hold(size: u16, c: u32) -> u32
     ensures { λ r. ⌜ (r ≡ held size (unbiased c)) × (r ≤ 65535) ⌝ }
 {
-    if c < BIAS {
-        return 0;
-    }
-    let at = c - BIAS;
+    let at = if c < BIAS { 0 } else { c - BIAS };
     if at < size as u32 {
         at
     } else {
@@ -340,7 +337,8 @@ pub fn value_at(plane: &[u8], s: Shape, x: u32, y: u32) -> f32
 {
     let column = hold(s.width, x);
     let row = hold(s.height, y);
-    (code_wide(plane, s, column, row) as f32) / (full_by(spare_bits(s.depth)) as f32)
+    let full = full_by(spare_bits(s.depth));
+    (code_wide(plane, s, column, row) as f32) / (full as f32)
 }
 
 pub fn in_reach(x: i32) -> bool
