@@ -1,17 +1,19 @@
 -- The claims of specs/Claims.antt.
-use Prim.Native.Nat.{ℕ, _+_, _-_, _*_, _≤_}
-use mathlib.Core.Path.{_≡_, ap}
+use Prim.Native.Nat.{ℕ, _+_, _-_, _*_}
+use mathlib.Core.Path.{_≡_, refl, ap}
 use native.Mathlib.Omega.{arith}
 use Rattle.laws.specs.Refusal.{rising}
-use Rattle.laws.specs.Sums.{sumOver, apart}
+use Rattle.laws.specs.Sums.{sumOver}
 use Rattle.laws.proofs.Claims.{lowest-says}
-use Rattle.laws.proofs.Sums.{sum-at-most}
+use Rattle.laws.proofs.Sums.{same-terms, sum-at-most}
 use Rattle.plane.specs.Plane.{unshifted, fullCode, codeOf}
 use Rattle.plane.proofs.Claims.{code-within-depth}
 use Rattle.comb.specs.declared.Combed.the-variants.{Value, Refused}
 use Rattle.comb.specs.Comb.{bendOf, combOf, planeComb}
 use Rattle.comb.specs.Answer.{combTests, rgbaTests}
-use Rattle.comb.specs.Claims.{CombSays, RgbaSays, OneCombed, CombWithin, NoInnerRow}
+use Rattle.comb.specs.Claims.{CombSays, RgbaSays, OneCombed, CombWithin, CodesSettle, NoInnerRow}
+use Rattle.comb.proofs.Rows.{same-bend}
+use Rattle.comb.proofs.Columns.{bend-at-most}
 
 pub comb-says : CombSays
 unfolding rising
@@ -27,10 +29,6 @@ one-combed (Value total) (Refused n) numbers values = cc
 one-combed (Refused n) (Value total) numbers values = cc
 one-combed (Refused n) (Refused m) numbers values = cc
 
--- a bend of codes that are at most `most`
-bend-within : (most up here down : ℕ) → up ≤ most → here ≤ most → down ≤ most → apart (2 * here) (up + down) ≤ 2 * most
-bend-within most up here down u h d = omega arith
-
 pub comb-within : CombWithin
 unfolding planeComb combOf
 comb-within bytes width height depth stride =
@@ -39,8 +37,16 @@ comb-within bytes width height depth stride =
     (λ y l.
     sum-at-most width (2 * fullCode depth) _
     (λ x m.
-    bend-within (fullCode depth) (codeOf bytes shape x y) (codeOf bytes shape x (y + 1)) (codeOf bytes shape x (y + 2)) (code-within-depth bytes shape x y)
-    (code-within-depth bytes shape x (y + 1)) (code-within-depth bytes shape x (y + 2))))
+    bend-at-most {a = codeOf bytes shape x y} {b = codeOf bytes shape x (y + 1)} {c = codeOf bytes shape x (y + 2)} refl
+    (code-within-depth bytes shape x y) (code-within-depth bytes shape x (y + 1)) (code-within-depth bytes shape x (y + 2))))
+
+pub codes-settle : CodesSettle
+unfolding planeComb combOf
+codes-settle bytes bytes′ width height depth stride same =
+    same-terms (height - 2) _ _
+    (λ y l.
+    same-terms width _ _
+    (λ x m. same-bend refl (same x y m (omega arith)) (same x (y + 1) m (omega arith)) (same x (y + 2) m (omega arith))))
 
 pub no-inner-row : NoInnerRow
 unfolding combOf sumOver

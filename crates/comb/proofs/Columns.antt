@@ -13,32 +13,32 @@ use Rattle.laws.proofs.Lists.{length-listed, listed-at}
 use Rattle.laws.proofs.Sums.{same-terms, sum-parts, sum-of-both, sum-at-most, sum-of-zeros, Summed, adds}
 use Rattle.comb.specs.declared.Kind.the-variants.{Cut}
 use Rattle.comb.specs.declared.Tally.{Tally}
-use Rattle.comb.specs.Rows.{codeIn, bendIn, Rows, tallied, AllUpTo, Held}
+use Rattle.comb.specs.Rows.{codeIn, bendIn, Rows, inAll, AllUpTo, Bounded, Grown}
 
 -- ---- how large bends are
 -- a bend of codes none of which is above `full`
 pub bend-at-most : {a b c full r : ℕ} → r ≡ apart (2 * b) (a + c) → a ≤ full → b ≤ full → c ≤ full → r ≤ 2 * full
 bend-at-most e u h d = omega arith
 
-pub cut-at-most : (full : ℕ) (up here down : List ℕ) (x : ℕ) → bendIn (Cut full) up here down x ≤ 2 * full
-cut-at-most full up here down x =
+pub cut-bend-at-most : (full : ℕ) (up here down : List ℕ) (x : ℕ) → bendIn (Cut full) up here down x ≤ 2 * full
+cut-bend-at-most full up here down x =
     bend-at-most {a = codeIn (Cut full) up x} {b = codeIn (Cut full) here x} {c = codeIn (Cut full) down x} refl (omega arith) (omega arith) (omega arith)
 
--- those of a row, or of its first columns
-pub cuts-at-most :
+-- those of a row's first columns add up to less than 2 ^ 32
+pub cut-row-fits :
     (full : ℕ) (up here down : List ℕ) (width x : ℕ) → Rows (Cut full) width up here down → x ≤ width →
     sumOver x (bendIn (Cut full) up here down) < 2 ^ 32
-cuts-at-most full up here down width x r w =
+cut-row-fits full up here down width x r w =
     let all : sumOver x (bendIn (Cut full) up here down) ≤ x * 65535 =
-    sum-at-most x 65535 (bendIn (Cut full) up here down) (λ k l. omega (arith, cut-at-most full up here down k, r .low)) in
+    sum-at-most x 65535 (bendIn (Cut full) up here down) (λ k l. omega (arith, cut-bend-at-most full up here down k, r .low)) in
     omega (arith, all, r .narrow)
 
 -- ---- columns that are all 0
-none-held : (columns : List ℕ) (t : Tally) → length columns ≡ 256 → ((x : ℕ) → getD columns x 0 ≡ 0) → t .most ≡ 0 → Held columns t
-none-held columns t long zeros none = record { long = long; upTo = λ x. omega (arith, zeros x); fits = omega arith }
+none-bounded : (columns : List ℕ) (t : Tally) → length columns ≡ 256 → ((x : ℕ) → getD columns x 0 ≡ 0) → t .most ≡ 0 → Bounded columns t
+none-bounded columns t long zeros none = record { long = long; upTo = λ x. omega (arith, zeros x); fits = omega arith }
 
-none-tallied : (columns : List ℕ) (t : Tally) → ((x : ℕ) → getD columns x 0 ≡ 0) → tallied columns t ≡ t .total
-none-tallied columns t zeros = omega (arith, sum-of-zeros 256 (λ x. getD columns x 0) (λ x l. zeros x))
+none-in-all : (columns : List ℕ) (t : Tally) → ((x : ℕ) → getD columns x 0 ≡ 0) → inAll columns t ≡ t .total
+none-in-all columns t zeros = omega (arith, sum-of-zeros 256 (λ x. getD columns x 0) (λ x l. zeros x))
 
 fresh-at : (n x : ℕ) → _≡_ {A = ℕ} (getD (replicate n 0) x 0) 0
 fresh-at zero x = refl
@@ -55,13 +55,13 @@ cleared-at n x = at (decLt x n)
 -- the columns went into the total, and are 0
 pub moved :
     {old new : List ℕ} {t : Tally} {sum : ℕ} →
-    Held old t → sum ≡ sumOver 256 (λ x. getD old x 0) → new ≡ listed (length old) (λ _. 0) →
-    Held new (record { total = t .total + sum; most = 0 }) × (tallied new (record { total = t .total + sum; most = 0 }) ≡ tallied old t)
+    Bounded old t → sum ≡ sumOver 256 (λ x. getD old x 0) → new ≡ listed (length old) (λ _. 0) →
+    Bounded new (record { total = t .total + sum; most = 0 }) × (inAll new (record { total = t .total + sum; most = 0 }) ≡ inAll old t)
 moved {old} {new} {t} {sum} h s e =
     let zeros : (x : ℕ) → getD new x 0 ≡ 0 = λ x. ap (λ (l : List ℕ). getD l x 0) e ∙ cleared-at (length old) x in
     let r : Tally = record { total = t .total + sum; most = 0 } in (
-      none-held new r (ap length e ∙ length-listed (length old) (λ _. 0) ∙ h .long) zeros refl,
-      none-tallied new r zeros ∙ ap (λ (k : ℕ). t .total + k) s,
+      none-bounded new r (ap length e ∙ length-listed (length old) (λ _. 0) ∙ h .long) zeros refl,
+      none-in-all new r zeros ∙ ap (λ (k : ℕ). t .total + k) s,
     )
 
 -- ---- the first n columns, lent
@@ -131,9 +131,9 @@ module _
           omega (arith, same, h x)
 
   pub grown-tally :
-      {t : Tally} {bend : ℕ} → Held old t → t .most + bend ≤ 65535 → ((x : ℕ) → f x ≤ bend) →
-      Held grown (record { total = t .total; most = t .most + bend })
-      × (tallied grown (record { total = t .total; most = t .most + bend }) ≡ tallied old t + sumOver n f)
+      {t : Tally} {bend : ℕ} → Bounded old t → t .most + bend ≤ 65535 → ((x : ℕ) → f x ≤ bend) →
+      Bounded grown (record { total = t .total; most = t .most + bend })
+      × (inAll grown (record { total = t .total; most = t .most + bend }) ≡ inAll old t + sumOver n f)
   grown-tally {t} {bend} h room b =
       let all : n + (256 - n) ≡ 256 = omega (arith, h .long, inside) in
       let sum : sumOver 256 (λ x. getD grown x 0) ≡ sumOver 256 (λ x. getD old x 0) + sumOver n f = rw all at (grown-sum (256 - n)) in (
@@ -144,31 +144,31 @@ module _
 -- ---- a row's bends, added to the total
 pub adds-sum :
     {columns : List ℕ} {t r : Tally} {sum : ℕ} (whole : ℕ) →
-    Held columns t → sum ≡ whole → sum < 2 ^ 32 → (r .total ≡ t .total + sum) × (r .most ≡ t .most) →
-    Held columns r × (tallied columns r ≡ tallied columns t + whole) × (whole < 2 ^ 32)
-adds-sum whole h s small e = (
-  record { long = h .long; upTo = λ x. omega (arith, h .upTo x); fits = omega (arith, h .fits) },
-  omega arith,
-  omega arith,
-)
+    Bounded columns t → sum ≡ whole → sum < 2 ^ 32 → (r .total ≡ t .total + sum) × (r .most ≡ t .most) →
+    Grown columns columns t r whole
+adds-sum whole h s small e = record {
+  bounded = record { long = h .long; upTo = λ x. omega (arith, h .upTo x); fits = omega (arith, h .fits) };
+  exact = omega arith;
+  small = omega arith;
+}
 
 -- ---- a tally after x of n terms that were added to `old`
 pub record Tallied (f : ℕ → ℕ) (n old : ℕ) (columns : List ℕ) (t : Tally) (x : ℕ) : Type 0 where
   pub within : x ≤ n
-  pub held : Held columns t
-  pub exact : tallied columns t ≡ old + sumOver x f
+  pub bounded : Bounded columns t
+  pub exact : inAll columns t ≡ old + sumOver x f
 
 no-terms : (f : ℕ → ℕ) → sumOver 0 f ≡ 0
 unfolding sumOver
 no-terms f = refl
 
 module _ {f : ℕ → ℕ} {n : ℕ} where
-  pub tally-starts : {columns : List ℕ} {t : Tally} → Held columns t → Tallied f n (tallied columns t) columns t 0
-  tally-starts h = record { within = omega arith; held = h; exact = omega (arith, no-terms f) }
+  pub tally-starts : {columns : List ℕ} {t : Tally} → Bounded columns t → Tallied f n (inAll columns t) columns t 0
+  tally-starts h = record { within = omega arith; bounded = h; exact = omega (arith, no-terms f) }
 
   pub tally-ends :
-      {old x : ℕ} {columns : List ℕ} {t : Tally} → Tallied f n old columns t x → n ≤ x → Held columns t × (tallied columns t ≡ old + sumOver n f)
-  tally-ends {old} s l = (s .held, s .exact ∙ ap (λ (k : ℕ). old + sumOver k f) (le-antisymm (s .within) l))
+      {old x : ℕ} {columns : List ℕ} {t : Tally} → Tallied f n old columns t x → n ≤ x → Bounded columns t × (inAll columns t ≡ old + sumOver n f)
+  tally-ends {old} s l = (s .bounded, s .exact ∙ ap (λ (k : ℕ). old + sumOver k f) (le-antisymm (s .within) l))
 
 -- ---- row after row: a tally that starts at nothing
 abbrev pub noColumns : List ℕ
@@ -177,12 +177,12 @@ noColumns = replicate 256 0
 abbrev pub noTally : Tally
 noTally = record { total = 0; most = 0 }
 
-pub nothing-held : Held noColumns noTally
-nothing-held = none-held noColumns noTally (length-replicate {A = ℕ} 256 0) (fresh-at 256) refl
+pub nothing-bounded : Bounded noColumns noTally
+nothing-bounded = none-bounded noColumns noTally (length-replicate {A = ℕ} 256 0) (fresh-at 256) refl
 
-pub nothing-tallied : (most : ℕ) (f : ℕ → ℕ) (n : ℕ) → Summed most f n (tallied noColumns noTally) 0
-nothing-tallied most f n =
-    let none : tallied noColumns noTally ≡ 0 = none-tallied noColumns noTally (fresh-at 256) in
+pub nothing-in-all : (most : ℕ) (f : ℕ → ℕ) (n : ℕ) → Summed most f n (inAll noColumns noTally) 0
+nothing-in-all most f n =
+    let none : inAll noColumns noTally ≡ 0 = none-in-all noColumns noTally (fresh-at 256) in
     record { within = omega arith; small = omega (arith, none); exact = none ∙ sym (no-terms f) }
 
 pub adds-row :

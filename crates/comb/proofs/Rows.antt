@@ -14,7 +14,7 @@ use Rattle.comb.specs.declared.Kind.{Kind}
 use Rattle.comb.specs.declared.Kind.the-variants.{Byte, Pair, Cut, Green}
 use Rattle.comb.specs.declared.Tally.{Tally}
 use Rattle.comb.specs.Comb.{bendOf}
-use Rattle.comb.specs.Rows.{sizeOf, codeIn, bendIn, codesOf, lowIn, Rows, tallied, Held}
+use Rattle.comb.specs.Rows.{sizeOf, codeIn, bendIn, codesOf, lowIn, Rows, Grown}
 use Rattle.comb.proofs.Columns.{Tallied}
 
 -- a bend of three numbers is that of the codes which they are
@@ -35,7 +35,7 @@ two-below y height stride h =
     rw (row-after-next y stride refl) (mul-le-mul-right stride rows)
 
 -- ---- a row lent as a part of its plane
--- in each of its columns it has the code that stands there without the cut
+-- in each of its columns it has the code that stands there in the whole list
 part-code : (kind : Kind) (bytes : List ℕ) (width x : ℕ) → x < width → codeIn kind (take (width * sizeOf kind) bytes) x ≡ codeIn kind bytes x
 part-code Byte bytes width x h = getD-take (width * 1) bytes x 0 (omega arith)
 part-code Pair bytes width x h =
@@ -111,16 +111,16 @@ module _
   pub adds-tile :
       {width before : ℕ} {columns later : List ℕ} {t r : Tally} →
       Tallied (bendIn (Cut full) up here down) width before columns t x → x + n ≤ width →
-      Held later r × (tallied later r ≡ tallied columns t + sumOver n (bendIn (Cut full) upper inner lower)) →
+      Grown columns later t r (sumOver n (bendIn (Cut full) upper inner lower)) →
       Tallied (bendIn (Cut full) up here down) width before later r (x + n)
   adds-tile s w m = record {
     within = w;
-    held = m .0;
+    bounded = m .bounded;
     exact =
         omega (
           arith,
           s .exact,
-          m .1,
+          m .exact,
           same-terms n (bendIn (Cut full) upper inner lower) (λ k. bendIn (Cut full) up here down (x + k))
               (λ k l. same-bend refl (tile-code full up x n k u l) (tile-code full here x n k h l) (tile-code full down x n k d l)),
           sum-parts x n (bendIn (Cut full) up here down),

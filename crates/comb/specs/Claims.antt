@@ -1,9 +1,9 @@
 -- What holds of the definitions here. proofs/Claims.antt proves each under its name in small letters.
-use Prim.Native.Nat.{ℕ, _-_, _*_, _≤_}
+use Prim.Native.Nat.{ℕ, _-_, _*_, _≤_, _<_}
 use mathlib.Core.Path.{_≡_}
 use mathlib.Core.List.{List}
 use Rattle.laws.specs.Refusal.{Says}
-use Rattle.plane.specs.Plane.{fullCode}
+use Rattle.plane.specs.Plane.{unshifted, fullCode, codeOf}
 use Rattle.comb.specs.declared.Combed.{Combed}
 use Rattle.comb.specs.Comb.{combOf, planeComb}
 use Rattle.comb.specs.Answer.{combedNo, combedValues, combTests, rgbaTests}
@@ -20,9 +20,17 @@ RgbaSays = (width height bytes : ℕ) → Says (rgbaTests width height bytes)
 abbrev pub OneCombed : Type 0
 OneCombed = (a b : Combed) → combedNo a ≡ combedNo b → combedValues a ≡ combedValues b → a ≡ b
 
--- no bend is above twice the largest code, whatever the bytes
+-- comb is at most twice the largest code for each column and inner row, whatever the bytes
 abbrev pub CombWithin : Type 0
 CombWithin = (bytes : List ℕ) (width height depth stride : ℕ) → planeComb bytes width height depth stride ≤ (height - 2) * (width * (2 * fullCode depth))
+
+-- two planes of the same codes have the same comb, whatever their stray bits
+abbrev pub CodesSettle : Type 0
+CodesSettle =
+    (bytes bytes′ : List ℕ) (width height depth stride : ℕ) →
+    let shape = unshifted width height depth stride in
+    ((x y : ℕ) → x < width → y < height → codeOf bytes shape x y ≡ codeOf bytes′ shape x y) →
+    planeComb bytes width height depth stride ≡ planeComb bytes′ width height depth stride
 
 -- a picture of two rows or fewer has no inner row, and comb 0
 abbrev pub NoInnerRow : Type 0

@@ -1,5 +1,5 @@
 -- How the private functions read a row: which bytes a column's code is made of. No public contract cites this file.
-use Prim.Native.Nat.{ℕ, _+_, _*_, _≤_, min}
+use Prim.Native.Nat.{ℕ, _+_, _*_, _^_, _≤_, _<_, min}
 use mathlib.Core.Path.{_≡_}
 use mathlib.Core.Bool.{cond}
 use mathlib.Core.List.{List}
@@ -52,14 +52,22 @@ pub record Rows (kind : Kind) (width : ℕ) (up here down : List ℕ) : Type 0 w
   pub low : lowIn kind
 
 -- ---- bends added up in two places: the total of a `Tally`, and 256 columns of sixteen bits beside it
-abbrev pub tallied : List ℕ → Tally → ℕ
-tallied columns t = t .total + sumOver 256 (λ x. getD columns x 0)
+-- what both hold
+abbrev pub inAll : List ℕ → Tally → ℕ
+inAll columns t = t .total + sumOver 256 (λ x. getD columns x 0)
 
+-- no column is above `most`
 abbrev pub AllUpTo : ℕ → List ℕ → Type 0
 AllUpTo most columns = (x : ℕ) → getD columns x 0 ≤ most
 
--- no column is above the number that the tally has for it
-pub record Held (columns : List ℕ) (t : Tally) : Type 0 where
+-- 256 columns, none above the tally's `most`, which fits sixteen bits
+pub record Bounded (columns : List ℕ) (t : Tally) : Type 0 where
   pub long : length columns ≡ 256
   pub upTo : AllUpTo (t .most) columns
   pub fits : t .most ≤ 65535
+
+-- a sum below 2 ^ 32 was added to what they hold
+pub record Grown (old new : List ℕ) (t r : Tally) (sum : ℕ) : Type 0 where
+  pub bounded : Bounded new r
+  pub exact : inAll new r ≡ inAll old t + sum
+  pub small : sum < 2 ^ 32

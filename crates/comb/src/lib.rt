@@ -12,7 +12,7 @@ ghost use Rattle.laws.specs.Rows.{listed};
 ghost use Rattle.laws.specs.Sums.{sumOver, apart};
 ghost use Rattle.comb.specs.Comb.{combOf, planeComb, rgbaComb};
 ghost use Rattle.comb.specs.Answer.{combedNo, combedValues, combNo, rgbaNo};
-ghost use Rattle.comb.specs.Rows.{kindOf, sizeOf, codeIn, bendIn, codesOf, lowIn, Rows, tallied, Held, AllUpTo};
+ghost use Rattle.comb.specs.Rows.{kindOf, sizeOf, codeIn, bendIn, codesOf, lowIn, Rows, inAll, AllUpTo, Bounded, Grown};
 ghost use Rattle.comb.specs.declared.Kind.the-variants.{Byte, Pair, Cut, Green};
 use plane::Layout;
 use plane::Shape;
@@ -113,7 +113,7 @@ fn green_at(row: &[u8], x: usize) -> u32
 }
 
 // The bends of a row, added up. A function for each kind, so that no loop asks the kind of each sample:
-// the compiler then drops every index test, and vectorises bytes and pairs.
+// the compiler then drops every index test, and vectorises bytes and pairs. Cut codes go by columns, below.
 fn bytes_bend(up: &[u8], here: &[u8], down: &[u8], width: usize) -> u32
     requires { ⌜ Rows Byte width (now up) (now here) (now down) ⌝ }
     ensures { λ r. ⌜ r ≡ sumOver width (bendIn Byte (now (up .entry)) (now (here .entry)) (now (down .entry))) ⌝ }
@@ -167,10 +167,10 @@ fn clear(columns: &mut [u16])
     }
 }
 
-fn wider(column: u16) -> u32
-    ensures { λ r. ⌜ (r ≡ column) × (r ≤ 65535) ⌝ }
+fn wider(number: u16) -> u32
+    ensures { λ r. ⌜ (r ≡ number) × (r ≤ 65535) ⌝ }
 {
-    column as u32
+    number as u32
 }
 
 // The columns added up. Two sums, since each addition waits for the one before it.
@@ -189,13 +189,13 @@ fn sum_of(columns: &[u16]) -> u32
     left + right
 }
 
-// Room for one bend more in each column, none of which is above `bend`: where there is none, the columns go
-// into the total.
-fn with_room(columns: &mut [u16], tally: Tally, bend: u32) -> Tally
-    requires { ⌜ Held (now columns) tally × (tallied (now columns) tally < 2 ^ 63) × (bend ≤ 65535) ⌝ }
-    ensures { λ r. ⌜ Held (now (columns .exit)) r × (tallied (now (columns .exit)) r ≡ tallied (now (columns .entry)) tally) × (r .most + bend ≤ 65535) ⌝ }
+// Makes room in every column for one more bend of at most `largest`: if there is none, the columns go into
+// the total and start again at 0.
+fn with_room(columns: &mut [u16], tally: Tally, largest: u32) -> Tally
+    requires { ⌜ Bounded (now columns) tally × (inAll (now columns) tally < 2 ^ 63) × (largest ≤ 65535) ⌝ }
+    ensures { λ r. ⌜ Bounded (now (columns .exit)) r × (inAll (now (columns .exit)) r ≡ inAll (now (columns .entry)) tally) × (r .most + largest ≤ 65535) ⌝ }
 {
-    if tally.most + bend <= 65535 {
+    if tally.most + largest <= 65535 {
         return tally;
     }
     let total = tally.total + sum_of(columns) as u64;
@@ -206,7 +206,7 @@ fn with_room(columns: &mut [u16], tally: Tally, bend: u32) -> Tally
     }
 }
 
-// The bends of a tile, which is a part of a row, go into the first of the columns.
+// The bends of a tile, which is a part of a row, go into the first n columns.
 fn tile_bend(
     columns: &mut [u16],
     tally: Tally,
@@ -216,15 +216,15 @@ fn tile_bend(
     n: usize,
     full: u16,
 ) -> Tally
-    requires { ⌜ Rows (Cut full) n (now up) (now here) (now down) × (n ≤ 256) × Held (now columns) tally × (tallied (now columns) tally < 2 ^ 63) ⌝ }
-    ensures { λ r. ⌜ Held (now (columns .exit)) r × (tallied (now (columns .exit)) r ≡ tallied (now (columns .entry)) tally + sumOver n (bendIn (Cut full) (now (up .entry)) (now (here .entry)) (now (down .entry)))) ⌝ }
+    requires { ⌜ Rows (Cut full) n (now up) (now here) (now down) × (n ≤ 256) × Bounded (now columns) tally × (inAll (now columns) tally < 2 ^ 63) ⌝ }
+    ensures { λ r. ⌜ Grown (now (columns .entry)) (now (columns .exit)) tally r (sumOver n (bendIn (Cut full) (now (up .entry)) (now (here .entry)) (now (down .entry)))) ⌝ }
 {
-    let bend = 2 * wider(full);
-    let ready = with_room(columns, tally, bend);
+    let largest = 2 * wider(full);
+    let ready = with_room(columns, tally, largest);
     add_bends(&mut columns[0..n], up, here, down, full);
     Tally {
         total: ready.total,
-        most: ready.most + bend,
+        most: ready.most + largest,
     }
 }
 
@@ -244,8 +244,8 @@ fn cuts_bend(
     width: usize,
     full: u16,
 ) -> Tally
-    requires { ⌜ Rows (Cut full) width (now up) (now here) (now down) × Held (now columns) tally × (tallied (now columns) tally < 2 ^ 62) ⌝ }
-    ensures { λ r. ⌜ Held (now (columns .exit)) r × (tallied (now (columns .exit)) r ≡ tallied (now (columns .entry)) tally + sumOver width (bendIn (Cut full) (now (up .entry)) (now (here .entry)) (now (down .entry)))) × (sumOver width (bendIn (Cut full) (now (up .entry)) (now (here .entry)) (now (down .entry))) < 2 ^ 32) ⌝ }
+    requires { ⌜ Rows (Cut full) width (now up) (now here) (now down) × Bounded (now columns) tally × (inAll (now columns) tally < 2 ^ 62) ⌝ }
+    ensures { λ r. ⌜ Grown (now (columns .entry)) (now (columns .exit)) tally r (sumOver width (bendIn (Cut full) (now (up .entry)) (now (here .entry)) (now (down .entry)))) ⌝ }
 {
     let mut so_far = tally;
     let mut x = 0;
@@ -298,8 +298,8 @@ fn row_bend(
     down: &[u8],
     width: usize,
 ) -> Tally
-    requires { ⌜ Rows kind width (now up) (now here) (now down) × Held (now columns) tally × (tallied (now columns) tally < 2 ^ 62) ⌝ }
-    ensures { λ r. ⌜ Held (now (columns .exit)) r × (tallied (now (columns .exit)) r ≡ tallied (now (columns .entry)) tally + sumOver width (bendIn kind (now (up .entry)) (now (here .entry)) (now (down .entry)))) × (sumOver width (bendIn kind (now (up .entry)) (now (here .entry)) (now (down .entry))) < 2 ^ 32) ⌝ }
+    requires { ⌜ Rows kind width (now up) (now here) (now down) × Bounded (now columns) tally × (inAll (now columns) tally < 2 ^ 62) ⌝ }
+    ensures { λ r. ⌜ Grown (now (columns .entry)) (now (columns .exit)) tally r (sumOver width (bendIn kind (now (up .entry)) (now (here .entry)) (now (down .entry)))) ⌝ }
 {
     match kind {
         Kind::Byte => plus(tally, bytes_bend(up, here, down, width)),

@@ -1,9 +1,16 @@
 -- The claims of specs/Claims.antt.
-use Rattle.laws.specs.Refusal.{rising}
+use mathlib.Core.Path.{_≡_}
+use lib.ListN.{length}
+use Rattle.laws.specs.Refusal.{rising, written}
 use Rattle.laws.proofs.Claims.{lowest-says}
+use Rattle.field.specs.Field.{parityNamed, cadenceNumber}
+use Rattle.telecine.proofs.Claims as telecine
+use Rattle.filmdesk.specs.Kept.{detectorIn, keeping}
+use Rattle.filmdesk.specs.Film.{pictureNamed, pushStateNo}
+use Rattle.filmdesk.specs.History.{picture, numberIn}
 use Rattle.filmdesk.specs.Claims.{FoundAgain, AlwaysSized, FreshSized, ResetSized, MeasuredSized, PushSized}
 use Rattle.filmdesk.specs.Claims.{BusySays, NewSays, StateSays, PredictSays, MeasuredSays, PushSays}
-use Rattle.filmdesk.specs.Claims.{RefusedLeaves, TooShort, BytesStay, RefusalKnown, ThirdDemand, LockedOverCalls, PredictOverCalls}
+use Rattle.filmdesk.specs.Claims.{RefusedLeaves, TooShort, BytesStay, RefusalKnown, CodesSettle, ThirdDemand, LockedOverCalls, PredictOverCalls}
 use Rattle.filmdesk.proofs.States as states
 use Rattle.filmdesk.proofs.Demand as demand
 
@@ -72,3 +79,18 @@ locked-over-calls = demand.locked-over-calls
 
 pub predict-over-calls : PredictOverCalls
 predict-over-calls = demand.predict-over-calls
+
+-- ---- stray bits
+pub codes-settle : CodesSettle
+codes-settle l parity byte plane plane′ n long same =
+    let d = detectorIn (l .state) in
+    let settled = telecine.codes-settle (record { detector = d; store = l .store }) plane plane′ (pictureNamed n) (parityNamed parity) long same in
+    let number : numberIn l (picture parity plane n) ≡ numberIn l (picture parity plane′ n) =
+    (λ i. pushStateNo n parity (long i) (length (l .store)) (length (l .state)) d) in (
+      number,
+      (λ i. written (number i) (cadenceNumber (settled .1 i)) byte),
+      (λ i. record {
+        state = written (number i) (keeping (settled .2 i .detector) (l .state)) (l .state);
+        store = written (number i) (settled .2 i .store) (l .store);
+      }),
+    )

@@ -8,6 +8,7 @@ use Rattle.laws.specs.Refusal.{lowest, Says}
 use Rattle.field.specs.declared.Cadence.{Cadence}
 use Rattle.field.specs.declared.Parity.{Parity}
 use Rattle.plane.specs.declared.Shape.{Shape}
+use Rattle.plane.specs.Plane.{codeOf}
 use Rattle.pulldown.specs.Runs.{Frame, Meets, phaseOf, lockFrame, foretold}
 use Rattle.pulldown.specs.Claims.{Third}
 use Rattle.telecine.specs.declared.Detector.{Detector}
@@ -17,9 +18,9 @@ use Rattle.telecine.specs.History.{framesOf, runOf, refusalTests}
 use Rattle.telecine.specs.History as calls
 use Rattle.numbers.specs.declared.GridNumbers.{GridNumbers}
 use Rattle.filmdesk.specs.Kept.{detectorIn, keeping}
-use Rattle.filmdesk.specs.Film.{busyTests, newTests, stateTests, stateNo, predictStateTests, predictStateNo, measuredStateTests, pushStateTests}
+use Rattle.filmdesk.specs.Film.{pictureNamed, busyTests, newTests, stateTests, stateNo, predictStateTests, predictStateNo, measuredStateTests, pushStateTests}
 use Rattle.filmdesk.specs.Left.{lockedByte, foretoldByte}
-use Rattle.filmdesk.specs.History.{Given, Call, Lent, numberIn, byteIn, numberOf, next, after, named, frameOf, byteOf, taken}
+use Rattle.filmdesk.specs.History.{Given, picture, Call, push, Lent, numberIn, byteIn, numberOf, next, after, named, frameOf, byteOf, taken}
 
 -- a detector whose numbers have the sizes of their places, as every detector of the code has
 pub record Sized (d : Detector) : Type 0 where
@@ -102,6 +103,16 @@ abbrev pub RefusalKnown : Type 0
 RefusalKnown =
     (l : Lent) (u : Given) (earlier : List Call) → 96 ≤ length (l .state)
     → numberIn (after l earlier) u ≡ lowest ((3, named u) ∷ refusalTests (length (l .store)) (frameOf u) (taken (length (l .store)) earlier))
+
+-- Two pictures with the same numbers, of one length and with the same codes, get the same and leave the same, whatever their stray bits and
+-- whatever is lent with them.
+abbrev pub CodesSettle : Type 0
+CodesSettle =
+    (l : Lent) (parity byte : ℕ) (plane plane′ : List ℕ) (n : GridNumbers) → length plane ≡ length plane′
+    → ((x y : ℕ) → x < n .width → y < n .height → codeOf plane (pictureNamed n) x y ≡ codeOf plane′ (pictureNamed n) x y)
+    → (numberIn l (picture parity plane n) ≡ numberIn l (picture parity plane′ n))
+    × (byteIn l (picture parity plane n) byte ≡ byteIn l (picture parity plane′ n) byte)
+    × (next l (push (picture parity plane n)) ≡ next l (push (picture parity plane′ n)))
 
 -- Demand 3 of a frame that the host gives after some calls: the byte that it gets stands for a cadence, whatever was in its place, and that is
 -- what the demand says of the frame and its run.

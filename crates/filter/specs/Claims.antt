@@ -26,7 +26,7 @@ use Rattle.filter.specs.Answer.{edgedNo, edgedValues, edgeTests, sampleT
 
 -- ---- values
 
--- the values are finite and at most 2 ^ 16 in size
+-- the values are finite and at most 2 ^ 16 in size: those of a plane lie from 0 to 1, and the filters are held to more
 abbrev pub Readable : Sampler → Type 0
 Readable sampler = (x y : ℤ) → Small 16 (sampler x y)
 

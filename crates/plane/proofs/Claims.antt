@@ -7,7 +7,7 @@ use native.Mathlib.Nat.{mod-lt, div-add-mod', le-trans, le-of-eq, div-one}
 use native.Mathlib.Omega.{arith}
 use borrow.Author.Tests.{lt-ltb, le-leb, lt-leb, leb-true, leb-false, ltb-false}
 use lib.Dec.{leb, ltb, lit<, ltb→lt}
-use lib.IntN.{ℤ, pos, negsuc, negℤ, _+ℤ_}
+use lib.IntN.{pos, negsuc, negℤ, _+ℤ_}
 use lib.ListN.{getD}
 use lib.Ieee.{Float, binary32, div, ofInt}
 use lib.Pow.{shr-lt, le-ones}

@@ -1,5 +1,5 @@
--- The largest code of a depth: a number that a float holds exactly, and not 0.
-use Prim.Native.Nat.{ℕ, _+_, _-_, _*_, _/_, _^_, _≤_, _<_, min, max}
+-- The largest code of a depth: a number that a float holds exactly, and not 0; and the same by the bits that a depth leaves of sixteen.
+use Prim.Native.Nat.{ℕ, _+_, _-_, _/_, _^_, _≤_, _<_, min, max}
 use mathlib.Core.Path.{_≡_, refl, ap, _∙_}
 use native.Mathlib.Omega.{arith}
 use lib.Pow.{pow-mono, high, ones-lt, ones-split}

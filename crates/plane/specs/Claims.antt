@@ -75,8 +75,8 @@ abbrev pub OthersAreWithin : Type 0
 OthersAreWithin =
     (bytes : List ℕ) → AllBytes bytes → (s : Shape) → mayExceed (s .layout) (s .depth) ≡ false → (x y : ℕ) → codeOf bytes s x y ≡ wordOf bytes s x y
 
--- One sample of ten bits. Of a planar plane the bytes FF 07 are a word above full, and count as full; FF 03 are full, and FE 03 one less. The word
--- 8000 of a biplanar luma is the code 512: it is shifted first, and then it is not above full.
+-- One sample of ten bits. Of a planar plane the bytes FF 07 are a word above full, and count as full; FF 03 are full, and FE 03 one less. The bytes
+-- 00 80 of a biplanar luma are the code 512: their word is shifted first, and then it is not above full.
 abbrev pub OneSampleOfTen : Type 0
 OneSampleOfTen =
     (wordOf (0xFF ∷ 0x07 ∷ []) (unshifted 1 1 10 2) 0 0 ≡ 2047)

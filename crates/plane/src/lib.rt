@@ -236,7 +236,7 @@ fn within_depths(depth: u8) -> u32
     if 16 < depth { 16 } else { depth as u32 }
 }
 
-// How many of sixteen bits a depth leaves. Shift and largest code both follow from it, and a read asks once.
+// How many of sixteen bits a depth leaves: shift and largest code both follow from it.
 fn spare_bits(depth: u8) -> u32
     ensures { λ r. ⌜ (r ≡ 16 - max 8 (min depth 16)) × (r ≤ 8) ⌝ }
 {
@@ -295,7 +295,8 @@ fn shifted(word: u32, right: u32) -> u32
     word >> right
 }
 
-// A byte is neither shifted nor above the largest code.
+// A code held in 32 bits, of any shape; 0 past the end. A byte is neither shifted nor above the largest code.
+// What is spare stands before the test of the depth, so that the compiler shares it with `value_at`.
 fn code_wide(plane: &[u8], s: Shape, x: u32, y: u32) -> u32
     requires { ⌜ (x ≤ 65535) × (y ≤ 65535) ⌝ }
     ensures { λ r. ⌜ (r ≡ codeOf (now (plane .entry)) s x y) × (r ≤ 65535) ⌝ }
@@ -337,6 +338,7 @@ pub fn value_at(plane: &[u8], s: Shape, x: u32, y: u32) -> f32
 {
     let column = hold(s.width, x);
     let row = hold(s.height, y);
+    // Before the read: the other way round is slower on Arm (docs/DECISIONS.md, "Speed").
     let full = full_by(spare_bits(s.depth));
     (code_wide(plane, s, column, row) as f32) / (full as f32)
 }

@@ -1,5 +1,5 @@
 -- The claims of specs/Claims.antt.
-use Prim.Native.Nat.{ℕ, zero, suc}
+use Prim.Native.Nat.{ℕ, zero, suc, _≤_}
 use native.Mathlib.Omega.{arith}
 use mathlib.Core.Path.{_≡_, refl, sym, ap, ap₂, _∙_}
 use mathlib.Core.Bool.{Bool, true, false, cond}
@@ -7,17 +7,26 @@ use mathlib.Core.List.{List, [], _∷_, _++_}
 use lib.Dec.{eqb}
 use lib.ListN.{length}
 use borrow.Author.Tests.{ne-eqb}
-use Rattle.laws.specs.Refusal.{rising}
+use Rattle.laws.specs.Refusal.{rising, written}
+use Rattle.laws.specs.Rows.{over}
 use Rattle.laws.proofs.Claims.{lowest-says}
+use Rattle.field.specs.declared.Parity.{Parity}
+use Rattle.field.specs.declared.Parity.the-variants as parity
+use Rattle.field.specs.declared.Chosen.the-variants as chosen
+use Rattle.field.specs.Field.{firstRowOf, otherOf}
+use Rattle.block.specs.Block.{totalOf, rowsOf}
+use Rattle.block.proofs.Claims as block
 use Rattle.pulldown.specs.declared.Seen.{Seen}
-use Rattle.pulldown.specs.Lock.{lockOf}
+use Rattle.pulldown.specs.declared.Seen.the-variants as seen
+use Rattle.pulldown.specs.Symbols.{symbolOf}
+use Rattle.pulldown.specs.Lock.{lockOf, advanceOf}
 use Rattle.pulldown.specs.Lock as lock
 use Rattle.pulldown.proofs.Claims.{answer-settled}
 use Rattle.pulldown.proofs.Claims as lock-proofs
-use Rattle.telecine.specs.Detector.{measuredTests, pushTests}
+use Rattle.telecine.specs.Detector.{comparable, symbolAgainst, seenPicture, keptAs, measuredTests, pushTests, pushNo}
 use Rattle.telecine.specs.History.{Push, picture, measured, Call, push, reset, State, next, after, numberOf, cadenceOf, lastPicture, lastParity, seenOf, seens, refusalTests, refusalOf, taken}
 use Rattle.telecine.specs.Claims.{ThirdDemand, Runs, RunConsecutive, RefusalKnown, RefusalSays, PushSays, MeasuredSays, RefusedLeaves, RefusedCountsNothing}
-use Rattle.telecine.specs.Claims.{LockedSays, PredictSays, ResetForgets, ResetIsFresh, PushedSettled}
+use Rattle.telecine.specs.Claims.{CodesSettle, LockedSays, PredictSays, ResetForgets, ResetIsFresh, PushedSettled}
 use Rattle.telecine.proofs.Reached.{few-before, number-known, cadence-known, any-reached}
 use Rattle.telecine.proofs.Reached as reached
 
@@ -82,6 +91,31 @@ refused-counts-nothing store (push u ∷ earlier) =
     one-call store u earlier (refusalOf (length store) u (taken (length store) earlier)) (refusal-known store u earlier)
     (refused-counts-nothing store earlier)
 refused-counts-nothing store (reset ∷ earlier) = ap (λ (state : State). next state reset) (refused-counts-nothing store earlier)
+
+-- ---- stray bits
+row-low : (first : Parity) → firstRowOf first ≤ 1
+row-low parity.Top = omega arith
+row-low parity.Bottom = omega arith
+
+pub codes-settle : CodesSettle
+unfolding symbolAgainst
+codes-settle state plane plane′ s first long same =
+    let d = state .detector in
+    let store = state .store in
+    let leading = block.codes-settle plane plane′ s store (firstRowOf first) (row-low first) same .1 in
+    let trailing = block.codes-settle plane plane′ s store (firstRowOf (otherOf first)) (row-low (otherOf first)) same .1 in
+    let kept = block.codes-settle plane plane′ s store 0 (omega arith) same .0 in
+    let total = totalOf (s .width) (rowsOf (s .height) (firstRowOf first)) in
+    let seen : seenPicture (d .kept) store plane s first ≡ seenPicture (d .kept) store plane′ s first =
+    (λ i. cond (comparable (d .kept) s first) (seen.Symbol (symbolOf (leading i) total (trailing i))) seen.NotComparable) in (
+      (λ i. pushNo d s (long i) (length store)),
+      (λ i. lock.pushCadence (d .lock) (seen i)),
+      (λ i. record {
+        detector =
+            written (pushNo d s (long i) (length store)) (record { lock = advanceOf (d .lock) (seen i); kept = keptAs s first; last = chosen.Field first }) d;
+        store = written (pushNo d s (long i) (length store)) (over (kept i) store) store;
+      }),
+    )
 
 -- ---- `locked` and `predict`
 pub locked-says : LockedSays

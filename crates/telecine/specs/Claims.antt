@@ -10,7 +10,9 @@ use mathlib.Core.List.{List, [], _∷_, _++_}
 use lib.ListN.{length}
 use Rattle.laws.specs.Refusal.{Says}
 use Rattle.field.specs.declared.Chosen.the-variants as chosen
+use Rattle.field.specs.declared.Parity.{Parity}
 use Rattle.plane.specs.declared.Shape.{Shape}
+use Rattle.plane.specs.Plane.{codeOf}
 use Rattle.pulldown.specs.declared.Symbol.{Symbol}
 use Rattle.pulldown.specs.declared.Seen.the-variants as seen
 use Rattle.pulldown.specs.Runs.{Frame, frameOf, Meets, phaseOf, lockFrame, foretold}
@@ -20,7 +22,7 @@ use Rattle.pulldown.specs.Claims as lock
 use Rattle.telecine.specs.declared.Detector.{Detector}
 use Rattle.telecine.specs.declared.Pushed.{Pushed}
 use Rattle.telecine.specs.Detector.{freshDetector, resetOf, measuredTests, pushTests}
-use Rattle.telecine.specs.History.{Push, Call, push, reset, State, numberIn, next, after, numberOf, cadenceOf, lastParity, seenOf, seens, framesOf, runOf, refusalTests, refusalOf, taken}
+use Rattle.telecine.specs.History.{Push, picture, Call, push, reset, State, numberIn, cadenceIn, next, after, numberOf, cadenceOf, lastParity, seenOf, seens, framesOf, runOf, refusalTests, refusalOf, taken}
 
 -- ---- demand 3
 
@@ -83,6 +85,17 @@ RefusedLeaves = (state : State) (u : Push) → (numberIn state u ≡ 0 → ⊥) 
 -- So refused calls count for nothing.
 abbrev pub RefusedCountsNothing : Type 0
 RefusedCountsNothing = (store : List ℕ) (calls : List Call) → after store calls ≡ after store (taken (length store) calls)
+
+-- ---- stray bits
+
+-- Two pictures of one shape, one length and the same codes get the same and leave the same, whatever their stray bits and whatever came before.
+abbrev pub CodesSettle : Type 0
+CodesSettle =
+    (state : State) (plane plane′ : List ℕ) (s : Shape) (first : Parity) → length plane ≡ length plane′
+    → ((x y : ℕ) → x < s .width → y < s .height → codeOf plane s x y ≡ codeOf plane′ s x y)
+    → (numberIn state (picture plane s first) ≡ numberIn state (picture plane′ s first))
+    × (cadenceIn state (picture plane s first) ≡ cadenceIn state (picture plane′ s first))
+    × (next state (push (picture plane s first)) ≡ next state (push (picture plane′ s first)))
 
 -- ---- the other calls
 

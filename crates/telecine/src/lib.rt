@@ -275,7 +275,8 @@ impl Detector {
     }
 
     // Takes a picture: compares it with the frame that the store keeps, and then keeps it there. Codes are
-    // not shifted: a biplanar luma deeper than 8 bits goes through readback first.
+    // not shifted, and one above 2^depth - 1 counts as that: a biplanar luma deeper than 8 bits goes through
+    // readback first.
     pub fn push(self, plane: &[u8], grid: Grid, first: Parity, store: &mut [u8]) -> Pushed
         ensures { λ r. ⌜ r .detector ≡ pushDetector self (now (store .entry)) (now (plane .entry)) (gridShape grid) first ⌝ }
         ensures { λ r. ⌜ answerNo (r .answer) ≡ pushNo self (gridShape grid) (length (now (plane .entry))) (length (now (store .entry))) ⌝ }

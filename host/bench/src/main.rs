@@ -251,7 +251,7 @@ fn contests() -> Vec<Contest> {
     let (bob, yadif, bwdif) = (1, 2, 3);
     let mut all = vec![values::first_field(60_000)];
     // How many bends fit a column of `comb` depends on the depth.
-    all.extend([8, 10, 12, 14, 15, 16].map(|depth| planes::comb(FULL, depth)));
+    all.extend([8, 10, 12, 13, 14, 15, 16].map(|depth| planes::comb(FULL, depth)));
     all.extend([planes::comb(STANDARD, 10), planes::comb_rgba(FULL)]);
     let each = [PLAIN, SHIFTED, CUT, DEEPEST];
     all.extend(each.map(|samples| values::code(at, at.pixels(), samples)));

@@ -3,16 +3,16 @@ use Prim.Native.Nat.{_-_}
 use native.Mathlib.Omega.{arith}
 use denote.Ref.{now}
 use borrow.Author.Needs.{needs}
-use Rattle.comb.specs.Rows.{bendIn, tallied}
+use Rattle.comb.specs.Rows.{bendIn, inAll}
 use Rattle.comb.specs.declared.Kind.the-variants.{Cut}
-use Rattle.comb.proofs.Columns.{cuts-at-most, Tallied, tally-starts, tally-ends}
+use Rattle.comb.proofs.Columns.{cut-row-fits, Tallied, tally-starts, tally-ends}
 use Rattle.comb.proofs.Rows.{tile-rows, adds-tile}
 use Rattle.comb.proofs.cuts_bend.Statement.{statement}
 use Rattle.comb.proofs.cuts_bend.Tie as tie
 
 abbrev Inv-loop : tie.InvT-loop
 Inv-loop columns₀ up here down width full so-far₀ x₀ columns so-far x =
-    Tallied (bendIn (Cut full) up here down) width (tallied columns₀ so-far₀) columns so-far x
+    Tallied (bendIn (Cut full) up here down) width (inAll columns₀ so-far₀) columns so-far x
 
 abbrev μ-loop : tie.MeasureT-loop
 μ-loop columns₀ up here down width full so-far₀ x₀ columns so-far x = width - x
@@ -59,11 +59,11 @@ tile-bend-requires c κs =
     let loop = tile .before .before in
     let start = loop .before .before .before .before .before in
     let a = start .args in
-    let small = cuts-at-most (a .full) (now (a .up)) (now (a .here)) (now (a .down)) (a .width) (loop .loop .x) (start .pre .0) (loop .loop .inv .within) in (
+    let small = cut-row-fits (a .full) (now (a .up)) (now (a .here)) (now (a .down)) (a .width) (loop .loop .x) (start .pre .0) (loop .loop .inv .within) in (
       tile-rows (a .full) (now (a .up)) (now (a .here)) (now (a .down)) (loop .loop .x) (tile .lesser .result)
           (c .before .before .row-at .ensures) (c .before .row-at2 .ensures) (c .row-at3 .ensures) (start .pre .0) (omega arith),
       omega arith,
-      loop .loop .inv .held,
+      loop .loop .inv .bounded,
       omega (arith, small, loop .loop .inv .exact, start .pre .2),
     )
 
@@ -91,7 +91,11 @@ returns c =
     let start = c .before .before .before .before .before .before in
     let a = start .args in
     let all = tally-ends (c .before .loop .inv) (omega arith) in
-    (all .0, all .1, cuts-at-most (a .full) (now (a .up)) (now (a .here)) (now (a .down)) (a .width) (a .width) (start .pre .0) (omega arith))
+    record {
+      bounded = all .0;
+      exact = all .1;
+      small = cut-row-fits (a .full) (now (a .up)) (now (a .here)) (now (a .down)) (a .width) (a .width) (start .pre .0) (omega arith);
+    }
 
 pub cuts-bend-spec : {M : Type 1} → statement M
 cuts-bend-spec =

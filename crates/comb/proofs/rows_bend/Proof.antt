@@ -1,4 +1,4 @@
--- The loop keeps `Summed` of the rows passed, that the tally holds its columns, and where the row above starts.
+-- The loop keeps `Summed` of the rows passed, that the tally bounds its columns, and where the row above starts.
 use Prim.Native.Nat.{ℕ, _+_, _*_, _-_, _≤_}
 use mathlib.Core.Path.{_≡_, refl, sym, ap, _∙_}
 use native.Mathlib.Nat.{zero-mul, mul-le-mul}
@@ -9,16 +9,16 @@ use borrow.Author.Needs.{needs}
 use Rattle.laws.specs.Sums.{sumOver}
 use Rattle.laws.proofs.Sums.{Summed, ends}
 use Rattle.comb.specs.Comb.{combOf, bendOf}
-use Rattle.comb.specs.Rows.{sizeOf, bendIn, codesOf, tallied, Held}
-use Rattle.comb.proofs.Columns.{nothing-held, nothing-tallied, adds-row}
+use Rattle.comb.specs.Rows.{sizeOf, bendIn, codesOf, inAll, Bounded}
+use Rattle.comb.proofs.Columns.{nothing-bounded, nothing-in-all, adds-row}
 use Rattle.comb.proofs.Rows.{next-row, two-below, lent-rows, lent-bends}
 use Rattle.comb.proofs.rows_bend.Statement.{statement}
 use Rattle.comb.proofs.rows_bend.Tie as tie
 
 abbrev Inv-loop : tie.InvT-loop
 Inv-loop kind plane width height stride n columns₀ tally₀ y₀ up₀ columns tally y up =
-    Summed 4294967296 (λ y. sumOver width (λ x. bendOf (codesOf kind plane stride) x y)) (height - 2) (tallied columns tally) y
-    × Held columns tally
+    Summed 4294967296 (λ y. sumOver width (λ x. bendOf (codesOf kind plane stride) x y)) (height - 2) (inAll columns tally) y
+    × Bounded columns tally
     × (up ≡ y * stride)
 
 abbrev μ-loop : tie.MeasureT-loop
@@ -31,7 +31,7 @@ mul-n : tie.Need-mul-n Inv-loop μ-loop
 mul-n c = omega (arith, mul-le-mul (c .before .before .pre .0) (c .size-of .ensures .1))
 
 loop-holds : tie.Need-loop-holds Inv-loop μ-loop
-loop-holds c = (nothing-tallied _ _ _, nothing-held, sym (zero-mul _))
+loop-holds c = (nothing-in-all _ _ _, nothing-bounded, sym (zero-mul _))
 
 -- how long a row is
 row-size : (c : tie.After-size-of Inv-loop μ-loop) → let a = c .before .before .args in a .width * c .size-of .result ≡ a .width * sizeOf (a .kind)
@@ -95,12 +95,12 @@ loop-again c =
     let one = row .before .before .before .row-at in
     let two = row .before .before .row-at2 in
     let three = row .before .row-at3 in (
-      adds-row (sumOver (a .width) (bendIn (a .kind) (now (one .result)) (now (two .result)) (now (three .result)))) (l .inv .0) (omega (arith, turn .loop-test .taken)) (row .row-bend .ensures .2)
+      adds-row (sumOver (a .width) (bendIn (a .kind) (now (one .result)) (now (two .result)) (now (three .result)))) (l .inv .0) (omega (arith, turn .loop-test .taken)) (row .row-bend .ensures .small)
           (lent-bends (a .kind) (now (a .plane)) (a .width) (a .stride) (l .y)
           (row-size (turn .before .before)) (l .inv .2)
           (one .ensures) (two .ensures) (three .ensures) refl)
-          (row .row-bend .ensures .1),
-      row .row-bend .ensures .0,
+          (row .row-bend .ensures .exact),
+      row .row-bend .ensures .bounded,
       next-row (l .y) (a .stride) (l .inv .2),
     )
 

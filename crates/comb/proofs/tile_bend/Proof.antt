@@ -7,7 +7,7 @@ use Rattle.laws.specs.Sums.{sumOver}
 use Rattle.laws.proofs.Lists.{front-length}
 use Rattle.comb.specs.Rows.{bendIn}
 use Rattle.comb.specs.declared.Kind.the-variants.{Cut}
-use Rattle.comb.proofs.Columns.{cut-at-most, lent-upTo, grown-tally}
+use Rattle.comb.proofs.Columns.{cut-bend-at-most, cut-row-fits, lent-upTo, grown-tally}
 use Rattle.comb.proofs.tile_bend.Statement.{statement}
 use Rattle.comb.proofs.tile_bend.Tie as tie
 
@@ -17,8 +17,8 @@ bends s = bendIn (Cut (s .args .full)) (now (s .args .up)) (now (s .args .here))
 wider-requires : tie.Need-wider-requires
 wider-requires c κs = search needs
 
-mul-bend : tie.Need-mul-bend
-mul-bend c = search needs
+mul-largest : tie.Need-mul-largest
+mul-largest c = search needs
 
 with-room-requires : tie.Need-with-room-requires
 with-room-requires c κs = search needs
@@ -61,15 +61,19 @@ returns c =
     let grown =
     grown-tally (bends start) (room .with-room .last .0) (a .n) (omega (arith, held .long, start .pre .1)) (c .before .before .before .add-bends .ensures)
     held (room .with-room .ensures .2)
-    (λ x. omega (arith, cut-at-most (a .full) (now (a .up)) (now (a .here)) (now (a .down)) x, wide .wider .ensures .0)) in
-    (grown .0, grown .1 ∙ ap (λ (k : ℕ). k + sumOver (a .n) (bends start)) (room .with-room .ensures .1))
+    (λ x. omega (arith, cut-bend-at-most (a .full) (now (a .up)) (now (a .here)) (now (a .down)) x, wide .wider .ensures .0)) in
+    record {
+      bounded = grown .0;
+      exact = grown .1 ∙ ap (λ (k : ℕ). k + sumOver (a .n) (bends start)) (room .with-room .ensures .1);
+      small = cut-row-fits (a .full) (now (a .up)) (now (a .here)) (now (a .down)) (a .n) (a .n) (start .pre .0) (omega arith);
+    }
 
 pub tile-bend-spec : {M : Type 1} → statement M
 tile-bend-spec =
     tie.close
     (tie.spec
     wider-requires
-    mul-bend
+    mul-largest
     with-room-requires
     sub-add-bends
     part-add-bends-start

@@ -7,7 +7,7 @@ use borrow.Author.Needs.{needs}
 use Rattle.plane.proofs.hold.Statement.{statement}
 use Rattle.plane.proofs.hold.Tie as tie
 
--- how far the coordinate is to the right of 0
+-- how far the coordinate is past 0
 place : (c : tie.Joined1) → c .if1 .at ≡ c .before .args .c - 65544
 place c = ⊎-elim (λ w. omega (arith, w .0 .taken, w .1)) (λ w. w .1) (c .if1 .came)
 
