@@ -5,6 +5,7 @@ use mathlib.Core.Bool.{cond}
 use mathlib.Core.List.{List}
 use lib.Dec.{leb, ltb}
 use lib.ListN.{length, getD, drop}
+use Rattle.laws.specs.Rows.{listed}
 use Rattle.laws.specs.Sums.{sumOver, apart}
 use Rattle.plane.specs.Plane.{fullCode}
 use Rattle.comb.specs.declared.Kind.{Kind}
@@ -55,6 +56,10 @@ pub record Rows (kind : Kind) (width : ℕ) (up here down : List ℕ) : Type 0 w
 -- what both hold
 abbrev pub inAll : List ℕ → Tally → ℕ
 inAll columns t = t .total + sumOver 256 (λ x. getD columns x 0)
+
+-- to each column its own number added
+abbrev pub eachPlus : List ℕ → (ℕ → ℕ) → List ℕ
+eachPlus columns f = listed (length columns) (λ x. getD columns x 0 + f x)
 
 -- no column is above `most`
 abbrev pub AllUpTo : ℕ → List ℕ → Type 0

@@ -12,7 +12,7 @@ ghost use Rattle.laws.specs.Rows.{listed};
 ghost use Rattle.laws.specs.Sums.{sumOver, apart};
 ghost use Rattle.comb.specs.Comb.{combOf, planeComb, rgbaComb};
 ghost use Rattle.comb.specs.Answer.{combedNo, combedValues, combNo, rgbaNo};
-ghost use Rattle.comb.specs.Rows.{kindOf, sizeOf, codeIn, bendIn, codesOf, lowIn, Rows, inAll, AllUpTo, Bounded, Grown};
+ghost use Rattle.comb.specs.Rows.{kindOf, sizeOf, codeIn, bendIn, codesOf, lowIn, Rows, inAll, eachPlus, AllUpTo, Bounded, Grown};
 ghost use Rattle.comb.specs.declared.Kind.the-variants.{Byte, Pair, Cut, Green};
 use plane::Layout;
 use plane::Shape;
@@ -144,7 +144,7 @@ fn pairs_bend(up: &[u8], here: &[u8], down: &[u8], width: usize) -> u32
 // vector holds eight.
 fn add_bends(columns: &mut [u16], up: &[u8], here: &[u8], down: &[u8], full: u16)
     requires { ⌜ Rows (Cut full) (length (now columns)) (now up) (now here) (now down) × AllUpTo (65535 - 2 * full) (now columns) ⌝ }
-    ensures { λ _. ⌜ now (columns .exit) ≡ listed (length (now (columns .entry))) (λ x. getD (now (columns .entry)) x 0 + bendIn (Cut full) (now (up .entry)) (now (here .entry)) (now (down .entry)) x) ⌝ }
+    ensures { λ _. ⌜ now (columns .exit) ≡ eachPlus (now (columns .entry)) (bendIn (Cut full) (now (up .entry)) (now (here .entry)) (now (down .entry))) ⌝ }
 {
     let mut x = 0;
     while x < columns.len() {
