@@ -1,16 +1,41 @@
--- What a call that gets 0 has passed, and what it has written.
+-- The copy's number from what the question got, what a copy that gets 0 has passed, and what it has written.
 use Prim.Native.Nat.{ℕ}
-use mathlib.Core.Path.{_≡_, sym, ap, _∙_}
-use mathlib.Core.Bool.{Bool, true, _&&_, and-eq-true-iff}
-use mathlib.Core.List.{List}
+use mathlib.Core.Path.{_≡_, refl, sym, ap, _∙_}
+use mathlib.Core.Bool.{Bool, true, cond, _&&_, and-eq-true-iff}
+use mathlib.Core.List.{List, [], _∷_, nil≢cons}
 use borrow.Author.Tests.{leb-true}
-use Rattle.laws.specs.Refusal.{rising, written}
+use lib.Dec.{lit<}
+use Rattle.laws.specs.Refusal.{lowest, whenDone, rising, written}
 use Rattle.laws.specs.Rows.{over}
-use Rattle.laws.proofs.Refusal.{all-pass, written-done}
+use Rattle.laws.proofs.Refusal.{Tells, all-pass, told-value, written-done, refused-already, decided-behind}
 use Rattle.plane.specs.declared.Shape.{Shape}
 use Rattle.readback.specs.declared.Readback.{Readback}
-use Rattle.readback.specs.Readback.{lumaShape, cbShape, crShape, crBytes, readbackTests, readbackNo, copiedOf}
-use Rattle.readback.specs.Inner.{PlaneReady}
+use Rattle.readback.specs.declared.Sizes.{Sizes}
+use Rattle.readback.specs.declared.Asked.{Asked}
+use Rattle.readback.specs.declared.Asked.the-variants.{Value, Refused}
+use Rattle.readback.specs.Readback.{lumaShape, cbShape, crShape, crBytes, sizesOf, askedNo, askedValues, sizesTests, sizesNo, outputsHold, readbackTests, readbackNo, copiedOf}
+use Rattle.readback.specs.Inner.{PlaneReady, copyNo}
+
+-- the copy's number, made from the answer that the planes get, is that of its own tests
+module _ (r : Readback) (luma second third luma-room cb-room cr-room : ℕ) where
+  -- 7 stands behind the tests of the planes
+  pub seven-behind :
+      sizesNo r luma second third ≡ 0
+      → readbackNo r luma second third luma-room cb-room cr-room ≡ cond (outputsHold (sizesOf r) luma-room cb-room cr-room) 0 7
+  unfolding lowest rising
+  seven-behind done = sym (decided-behind 1 (sizesTests r luma second third) ((7, outputsHold (sizesOf r) luma-room cb-room cr-room) ∷ []) (lit< tt) tt done)
+
+  pub refusal-stands :
+      (sizesNo r luma second third ≡ 0 → ⊥) → readbackNo r luma second third luma-room cb-room cr-room ≡ sizesNo r luma second third
+  refusal-stands refused = sym (refused-already (sizesTests r luma second third) ((7, outputsHold (sizesOf r) luma-room cb-room cr-room) ∷ []) refused)
+
+  pub copy-number :
+      (asked : Asked) → Tells askedNo askedValues asked (sizesNo r luma second third) (sizesOf r)
+      → copyNo asked luma-room cb-room cr-room ≡ readbackNo r luma second third luma-room cb-room cr-room
+  copy-number (Value sizes) h =
+      ap (λ (sizes : Sizes). cond (outputsHold sizes luma-room cb-room cr-room) 0 7) (told-value h refl refl refl) ∙ sym (seven-behind (sym (h .number-is)))
+  copy-number (Refused n) h =
+      h .number-is ∙ sym (refusal-stands (λ done. nil≢cons (h .values-are ∙ ap (λ (k : ℕ). whenDone k (sizesOf r)) done)))
 
 -- the planes and outputs of a call
 pub record FrameReady (r : Readback) (luma second third luma-room cb-room cr-room : ℕ) : Type 0 where

@@ -1,20 +1,72 @@
 -- What the contracts of `readback` come to. proofs/Claims.antt proves each claim under its name in small letters.
 use Prim.Native.Nat.{ℕ, _*_, _<_, _≤_}
 use mathlib.Core.Path.{_≡_}
+use mathlib.Core.Logic.{_⊎_, _↔_}
 use mathlib.Core.List.{List}
 use lib.ListN.{length, getD}
 use Rattle.laws.specs.Refusal.{Says}
 use Rattle.laws.specs.Rows.{over}
 use Rattle.plane.specs.declared.Shape.{Shape}
 use Rattle.plane.specs.declared.Layout.the-variants.{Planar}
-use Rattle.plane.specs.Plane.{sampleBytes, wordOf, codeOf}
+use Rattle.plane.specs.Plane.{sampleBytes, wordOf, codeOf, half}
 use Rattle.readback.specs.declared.Readback.{Readback}
-use Rattle.readback.specs.Readback.{packedBytes, readbackTests, copiedOf}
+use Rattle.readback.specs.declared.Sizes.{Sizes}
+use Rattle.readback.specs.Readback.{lumaShape, cbShape, crShape, crBytes, packedBytes, sizesOf, sizesTests, sizesNo, readbackTests, readbackNo}
+use Rattle.readback.specs.Readback.{copiedOf, copiedAfter}
 
--- 0 exactly when no number applies, and otherwise the lowest that does
+-- ---- the numbers: 0 exactly when no number applies, and otherwise the lowest that does, of each call's own tests
+
+abbrev pub SizesSays : Type 0
+SizesSays = (r : Readback) (luma second third : ℕ) → Says (sizesTests r luma second third)
+
 abbrev pub ReadbackSays : Type 0
 ReadbackSays = (r : Readback) (luma second third luma-room cb-room cr-room : ℕ) → Says (readbackTests r luma second third luma-room cb-room cr-room)
 
+-- ---- the two calls
+
+-- an output is shorter than was said
+abbrev pub Shorter : Sizes → ℕ → ℕ → ℕ → Type 0
+Shorter said luma-room cb-room cr-room = (luma-room < said .luma) ⊎ ((cb-room < said .cb) ⊎ (cr-room < said .cr))
+
+-- The copy's number is the question's, except where that is 0 and an output is shorter than was said: then, and only then, it is 7.
+pub record Follows (r : Readback) (luma second third luma-room cb-room cr-room : ℕ) : Type 0 where
+  pub seven :
+      (readbackNo r luma second third luma-room cb-room cr-room ≡ 7)
+      ↔ ((sizesNo r luma second third ≡ 0) × Shorter (sizesOf r) luma-room cb-room cr-room)
+  pub alike :
+      (readbackNo r luma second third luma-room cb-room cr-room ≡ 7 → ⊥)
+      → readbackNo r luma second third luma-room cb-room cr-room ≡ sizesNo r luma second third
+
+abbrev pub CopyFollows : Type 0
+CopyFollows = (r : Readback) (luma second third luma-room cb-room cr-room : ℕ) → Follows r luma second third luma-room cb-room cr-room
+
+-- Into outputs of just the lengths that were said, the copy gets 0 and leaves the planes, with no byte of what the outputs held before.
+pub record Filled (r : Readback) (luma second third out-luma out-cb out-cr : List ℕ) : Type 0 where
+  pub done : readbackNo r (length luma) (length second) (length third) (length out-luma) (length out-cb) (length out-cr) ≡ 0
+  pub luma-filled : copiedAfter 0 luma (lumaShape r) out-luma ≡ copiedOf luma (lumaShape r)
+  pub cb-filled : copiedAfter 0 second (cbShape r) out-cb ≡ copiedOf second (cbShape r)
+  pub cr-filled : copiedAfter 0 (crBytes r second third) (crShape r) out-cr ≡ copiedOf (crBytes r second third) (crShape r)
+
+abbrev pub JustFills : Type 0
+JustFills =
+    (r : Readback) (luma second third out-luma out-cb out-cr : List ℕ) → sizesNo r (length luma) (length second) (length third) ≡ 0
+    → sizesOf r ≡ record { luma = length out-luma; cb = length out-cb; cr = length out-cr }
+    → Filled r luma second third out-luma out-cb out-cr
+
+-- What is said is the packed planes: height times width times bytes a sample, of each component by itself. No pitch and no count of planes is in it.
+abbrev pub packedSizes : ℕ → ℕ → ℕ → Sizes
+packedSizes width height depth = record {
+  luma = height * (width * sampleBytes depth);
+  cb = half height * (half width * sampleBytes depth);
+  cr = half height * (half width * sampleBytes depth);
+}
+
+abbrev pub SizesPacked : Type 0
+SizesPacked = (r : Readback) → sizesOf r ≡ packedSizes (r .width) (r .height) (r .depth)
+
+-- ---- the copy
+
+-- what is copied has the size that was said of its plane
 abbrev pub CopiedSize : Type 0
 CopiedSize = (bytes : List ℕ) (s : Shape) → length (copiedOf bytes s) ≡ packedBytes s
 

@@ -1,4 +1,4 @@
--- How the inner functions copy a row. Only inner functions cite this file.
+-- How the inner functions judge and copy. Only inner functions cite this file.
 use Prim.Native.Nat.{ℕ, _+_, _*_, _/_, _%_, _^_, _≤_}
 use mathlib.Core.Path.{_≡_}
 use mathlib.Core.Bool.{Bool, true, cond}
@@ -7,9 +7,16 @@ use lib.Dec.{leb}
 use lib.ListN.{length, getD}
 use Rattle.plane.specs.declared.Shape.{Shape}
 use Rattle.plane.specs.Plane.{alone, goodShape, planeBytes}
+use Rattle.readback.specs.declared.Asked.{Asked}
+use Rattle.readback.specs.declared.Asked.the-variants.{Value, Refused}
 use Rattle.readback.specs.declared.Kind.{Kind}
 use Rattle.readback.specs.declared.Kind.the-variants.{Byte, EverySecondByte, Pair, EverySecondPair}
-use Rattle.readback.specs.Readback.{packedBytes}
+use Rattle.readback.specs.Readback.{packedBytes, outputsHold}
+
+-- the copy's number from what the question got: its refusal, or 7 where there is no room
+abbrev pub copyNo : Asked → ℕ → ℕ → ℕ → ℕ
+copyNo (Value sizes) luma-room cb-room cr-room = cond (outputsHold sizes luma-room cb-room cr-room) 0 7
+copyNo (Refused n) luma-room cb-room cr-room = n
 
 abbrev pub kindBy : Bool → Bool → Kind
 kindBy byte one = cond byte (cond one Byte EverySecondByte) (cond one Pair EverySecondPair)

@@ -1,8 +1,8 @@
--- A frame read back from a device (docs/RULES.md, "Fields and readback"; the source is `frame_of_readback` in weave.rs): its number, and the three
--- planes that are copied out.
+-- A frame read back from a device (docs/RULES.md, "Fields and readback"; the source is weave.rs): the sizes that are told, the numbers of both
+-- calls, and the three planes that are copied out.
 use Prim.Native.Nat.{ℕ, _*_, _/_, _%_}
 use mathlib.Core.Bool.{Bool, cond, _&&_}
-use mathlib.Core.List.{List, [], _∷_}
+use mathlib.Core.List.{List, [], _∷_, _++_}
 use lib.Dec.{leb, eqb}
 use lib.ListN.{length}
 use denote.Ref.{now}
@@ -13,6 +13,9 @@ use Rattle.plane.specs.declared.Shape.{Shape}
 use Rattle.plane.specs.declared.Layout.the-variants.{Luma, First, Second}
 use Rattle.plane.specs.Plane.{goodShape, planeBytes, sampleBytes, wordOf, half}
 use Rattle.readback.specs.declared.Readback.{Readback}
+use Rattle.readback.specs.declared.Sizes.{Sizes}
+use Rattle.readback.specs.declared.Asked.{Asked}
+use Rattle.readback.specs.declared.Asked.the-variants.{Value, Refused}
 
 -- ---- the planes that were read back
 
@@ -41,26 +44,56 @@ crShape r = record {
 abbrev pub crBytes : {A : Type 0} → Readback → A → A → A
 crBytes r second third = cond (shared r) second third
 
--- ---- the number
+-- ---- the sizes
 
--- 1: there is no plane, or more than three. 2: there is only luma. 4: a shape is outside the bounds. 6: a plane is shorter than its shape needs.
--- 7: an output is too short. The chroma planes have no sizes of their own, so that nothing can differ (5). A plane beyond the count is not looked at.
+-- a component without padding
 abbrev pub packedBytes : Shape → ℕ
 packedBytes s = s .height * (s .width * sampleBytes (s .depth))
 
-abbrev pub readbackTests : Readback → ℕ → ℕ → ℕ → ℕ → ℕ → ℕ → List (ℕ × Bool)
-readbackTests r luma second third luma-room cb-room cr-room =
+-- the bytes that each output needs
+abbrev pub sizesOf : Readback → Sizes
+sizesOf r = record { luma = packedBytes (lumaShape r); cb = packedBytes (cbShape r); cr = packedBytes (crShape r) }
+
+-- An answer by its cases: the sizes are number 0 and those sizes, a refusal its number and no sizes.
+abbrev pub askedNo : Asked → ℕ
+askedNo (Value sizes) = 0
+askedNo (Refused n) = n
+
+abbrev pub askedValues : Asked → List Sizes
+askedValues (Value sizes) = sizes ∷ []
+askedValues (Refused n) = []
+
+-- ---- the numbers
+
+-- 1: there is no plane, or more than three. 2: there is only luma. 4: a shape is outside the bounds. 6: a plane is shorter than its shape needs.
+-- The chroma planes have no sizes of their own, so that nothing can differ (5). A plane beyond the count is not looked at.
+abbrev pub sizesTests : Readback → ℕ → ℕ → ℕ → List (ℕ × Bool)
+sizesTests r luma second third =
     (1, leb 1 (r .planes) && leb (r .planes) 3)
     ∷ (2, leb 2 (r .planes))
     ∷ (4, goodShape (lumaShape r) && goodShape (cbShape r) && goodShape (crShape r))
     ∷ (6, leb (planeBytes (lumaShape r)) luma && leb (planeBytes (cbShape r)) second && leb (planeBytes (crShape r)) (crBytes r second third))
-    ∷ (7, leb (packedBytes (lumaShape r)) luma-room && leb (packedBytes (cbShape r)) cb-room && leb (packedBytes (crShape r)) cr-room)
     ∷ []
+
+abbrev pub sizesNo : Readback → ℕ → ℕ → ℕ → ℕ
+sizesNo r luma second third = lowest (sizesTests r luma second third)
+
+-- outputs of these lengths have room
+abbrev pub outputsHold : Sizes → ℕ → ℕ → ℕ → Bool
+outputsHold sizes luma-room cb-room cr-room = leb (sizes .luma) luma-room && leb (sizes .cb) cb-room && leb (sizes .cr) cr-room
+
+-- The copy has the same tests, and behind them 7: an output is too short.
+abbrev pub readbackTests : Readback → ℕ → ℕ → ℕ → ℕ → ℕ → ℕ → List (ℕ × Bool)
+readbackTests r luma second third luma-room cb-room cr-room =
+    sizesTests r luma second third ++ ((7, outputsHold (sizesOf r) luma-room cb-room cr-room) ∷ [])
 
 abbrev pub readbackNo : Readback → ℕ → ℕ → ℕ → ℕ → ℕ → ℕ → ℕ
 readbackNo r luma second third luma-room cb-room cr-room = lowest (readbackTests r luma second third luma-room cb-room cr-room)
 
--- the same of what a call is lent: three planes, then three outputs
+-- the same of what a call is lent: three planes, and for the copy three outputs
+abbrev pub sizesNoOf : {A B C : Type 0} → Readback → Slice A → Slice B → Slice C → ℕ
+sizesNoOf r luma second third = sizesNo r (length (now (luma .entry))) (length (now (second .entry))) (length (now (third .entry)))
+
 abbrev pub readbackNoOf : {A B C D E F : Type 0} → Readback → Slice A → Slice B → Slice C → Slice D → Slice E → Slice F → ℕ
 readbackNoOf r luma second third out-luma out-cb out-cr =
     readbackNo r (length (now (luma .entry))) (length (now (second .entry))) (length (now (third .entry))) (length (now (out-luma .entry)))

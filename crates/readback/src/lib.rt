@@ -1,8 +1,8 @@
 // Copyright 2026 Till0196
 // SPDX-License-Identifier: Apache-2.0
-// Carried over from core/src/decode/weave.rs (`frame_of_readback`), and changed: planes are lent slices
-// beside their pitches, the frame goes to three lent outputs, what is out of bounds is refused by
-// number, and judging stands apart from copying.
+// Carried over from core/src/decode/weave.rs, and changed: planes are lent slices beside their pitches,
+// the frame goes to three lent outputs, what is out of bounds is refused by number, and a call of its
+// own says how long the outputs have to be.
 //
 // A frame read back from a device: padding is dropped, words in the high bits are brought down, and
 // chroma that shares a plane is separated.
@@ -11,11 +11,12 @@ ghost use mathlib.Core.Bool.{cond, _&&_};
 ghost use Prim.Native.Nat.{_+_, _*_, _/_, _^_, _<_, _≤_};
 ghost use lib.Dec.{leb};
 ghost use lib.ListN.{length, getD};
+ghost use Rattle.laws.specs.Refusal.{whenDone};
 ghost use Rattle.laws.specs.Rows.{laid, over};
 ghost use Rattle.plane.specs.declared.Layout.the-variants.{Luma};
 ghost use Rattle.plane.specs.Plane.{sampleBytes, goodShape, planeBytes};
-ghost use Rattle.readback.specs.Readback.{lumaShape, shared, cbShape, crShape, crBytes, packedBytes, readbackNo, copiedOf, readbackNoOf, copiedAfter};
-ghost use Rattle.readback.specs.Inner.{kindOf, stepOf, copyIn, RowRoom, PlaneReady};
+ghost use Rattle.readback.specs.Readback.{lumaShape, shared, cbShape, crShape, crBytes, packedBytes, sizesOf, askedNo, askedValues, sizesNo, outputsHold, sizesNoOf, readbackNoOf, copiedOf, copiedAfter};
+ghost use Rattle.readback.specs.Inner.{copyNo, kindOf, stepOf, copyIn, RowRoom, PlaneReady};
 ghost use Rattle.readback.specs.declared.Kind.the-variants.{Byte, EverySecondByte, Pair, EverySecondPair};
 use plane::Layout;
 use plane::Shape;
@@ -30,6 +31,19 @@ pub struct Readback {
     pub luma_pitch: u32,
     pub second_pitch: u32,
     pub third_pitch: u32,
+}
+
+// The bytes that the output of each component needs.
+pub struct Sizes {
+    pub luma: usize,
+    pub cb: usize,
+    pub cr: usize,
+}
+
+// What one gets who asks for them.
+pub enum Asked {
+    Value(Sizes),
+    Refused(u8),
 }
 
 // How a row holds the samples of a component.
@@ -157,29 +171,12 @@ fn planes_reach(about: Readback, luma: usize, second: usize, third: usize) -> bo
         & (plane::plane_bytes(cr_shape(about)) <= cr)
 }
 
-fn outputs_hold(about: Readback, luma_room: usize, cb_room: usize, cr_room: usize) -> bool
-    ensures { λ r. ⌜ r ≡ (leb (packedBytes (lumaShape about)) «luma_room» && leb (packedBytes (cbShape about)) «cb_room» && leb (packedBytes (crShape about)) «cr_room») ⌝ }
-{
-    (packed_bytes(luma_shape(about)) <= luma_room)
-        & (packed_bytes(cb_shape(about)) <= cb_room)
-        & (packed_bytes(cr_shape(about)) <= cr_room)
-}
-
-// The number of `frame_of_readback`, from the lengths of what is lent: 1, 2, 4, 6 or 7.
-pub fn readback_no(
-    about: Readback,
-    luma: usize,
-    second: usize,
-    third: usize,
-    luma_room: usize,
-    cb_room: usize,
-    cr_room: usize,
-) -> u8
-    ensures { λ r. ⌜ r ≡ readbackNo about luma second third «luma_room» «cb_room» «cr_room» ⌝ }
+// The number of `readback_sizes`, from the lengths of the planes: 1, 2, 4 or 6.
+fn sizes_no(about: Readback, luma: usize, second: usize, third: usize) -> u8
+    ensures { λ r. ⌜ r ≡ sizesNo about luma second third ⌝ }
 {
     let good = good_shapes(about);
     let reach = planes_reach(about, luma, second, third);
-    let hold = outputs_hold(about, luma_room, cb_room, cr_room);
     refusal::test(
         refusal::PLANE_COUNT,
         counts(about.planes),
@@ -189,14 +186,58 @@ pub fn readback_no(
             refusal::test(
                 refusal::SHAPE,
                 good,
-                refusal::test(
-                    refusal::SHORT_INPUT,
-                    reach,
-                    refusal::test(refusal::SHORT_OUTPUT, hold, refusal::DONE),
-                ),
+                refusal::test(refusal::SHORT_INPUT, reach, refusal::DONE),
             ),
         ),
     )
+}
+
+// ---- the sizes
+
+fn sizes_of(about: Readback) -> Sizes
+    ensures { λ r. ⌜ r ≡ sizesOf about ⌝ }
+{
+    let luma = packed_bytes(luma_shape(about));
+    let cb = packed_bytes(cb_shape(about));
+    let cr = packed_bytes(cr_shape(about));
+    Sizes {
+        luma: luma,
+        cb: cb,
+        cr: cr,
+    }
+}
+
+// How long the outputs of `readback_copy` have to be for these planes.
+pub fn readback_sizes(about: Readback, luma: &[u8], second: &[u8], third: &[u8]) -> Asked
+    ensures { λ r. ⌜ askedNo r ≡ sizesNoOf about luma second third ⌝ }
+    ensures { λ r. ⌜ askedValues r ≡ whenDone (sizesNoOf about luma second third) (sizesOf about) ⌝ }
+{
+    let no = sizes_no(about, luma.len(), second.len(), third.len());
+    if no == 0 {
+        Asked::Value(sizes_of(about))
+    } else {
+        Asked::Refused(no)
+    }
+}
+
+fn outputs_hold(sizes: Sizes, luma_room: usize, cb_room: usize, cr_room: usize) -> bool
+    ensures { λ r. ⌜ r ≡ outputsHold sizes «luma_room» «cb_room» «cr_room» ⌝ }
+{
+    (sizes.luma <= luma_room) & (sizes.cb <= cb_room) & (sizes.cr <= cr_room)
+}
+
+// The number of `readback_copy`, from what `readback_sizes` gives and the lengths of the outputs.
+fn copy_no(asked: Asked, luma_room: usize, cb_room: usize, cr_room: usize) -> u8
+    ensures { λ r. ⌜ r ≡ copyNo asked «luma_room» «cb_room» «cr_room» ⌝ }
+{
+    match asked {
+        Asked::Value(sizes) => refusal::test(
+            refusal::SHORT_OUTPUT,
+            outputs_hold(sizes, luma_room, cb_room, cr_room),
+            refusal::DONE,
+        ),
+        Asked::Refused(no) => no,
+    }
 }
 
 // ---- the copy
@@ -340,9 +381,9 @@ fn copy_cr(out: &mut [u8], about: Readback, second: &[u8], third: &[u8])
     copy_rows(out, third, s);
 }
 
-// ---- the call
-
-pub fn frame_of_readback(
+// The three planes, each to its output. Nothing is supposed of what was asked before: the planes are
+// judged anew, and the outputs by these sizes.
+pub fn readback_copy(
     out_luma: &mut [u8],
     out_cb: &mut [u8],
     out_cr: &mut [u8],
@@ -356,15 +397,8 @@ pub fn frame_of_readback(
     ensures { λ r. ⌜ now («out_cb» .exit) ≡ copiedAfter r (now (second .entry)) (cbShape about) (now («out_cb» .entry)) ⌝ }
     ensures { λ r. ⌜ now («out_cr» .exit) ≡ copiedAfter r (crBytes about (now (second .entry)) (now (third .entry))) (crShape about) (now («out_cr» .entry)) ⌝ }
 {
-    let no = readback_no(
-        about,
-        luma.len(),
-        second.len(),
-        third.len(),
-        out_luma.len(),
-        out_cb.len(),
-        out_cr.len(),
-    );
+    let asked = readback_sizes(about, luma, second, third);
+    let no = copy_no(asked, out_luma.len(), out_cb.len(), out_cr.len());
     if no == 0 {
         copy_rows(out_luma, luma, luma_shape(about));
         copy_rows(out_cb, second, cb_shape(about));

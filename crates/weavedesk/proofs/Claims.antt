@@ -1,8 +1,9 @@
 -- The claims of specs/Claims.antt.
 use Rattle.laws.specs.Refusal.{rising}
 use Rattle.laws.proofs.Claims.{lowest-says}
-use Rattle.weavedesk.specs.Claims.{WeaveSays, LineSays, LineOutSays, ReadbackSays, NewSays, ClearSays, PushSays}
-use Rattle.weavedesk.specs.Claims.{FoundAgain, AlwaysSized, PushSized, PairsWoven, RefusalKnown, RefusedLeaves, PlacesStay, TooShort}
+use Rattle.weavedesk.specs.Claims.{WeaveSays, LineSays, LineOutSays, SizesSays, ReadbackSays, NewSays, ClearSays, PushSays}
+use Rattle.weavedesk.specs.Claims.{AskThenCopy, FoundAgain, AlwaysSized, PushSized, PairsWoven, RefusalKnown, RefusedLeaves, PlacesStay, TooShort}
+use Rattle.weavedesk.proofs.Readback as readback
 use Rattle.weavedesk.proofs.States as states
 use Rattle.weavedesk.proofs.Demand as demand
 
@@ -14,6 +15,10 @@ weave-says top top-luma top-cb top-cr bottom bottom-luma bottom-cb bottom-cr lum
 pub line-says : LineSays
 unfolding rising
 line-says t top-bytes b bottom-bytes y = lowest-says _ tt
+
+pub sizes-says : SizesSays
+unfolding rising
+sizes-says about luma second third = lowest-says _ tt
 
 pub readback-says : ReadbackSays
 unfolding rising
@@ -34,6 +39,10 @@ line-out-says t top-bytes b bottom-bytes y room = lowest-says _ tt
 pub push-says : PushSays
 unfolding rising
 push-says l o = lowest-says _ tt
+
+-- ---- a frame read back
+pub ask-then-copy : AskThenCopy
+ask-then-copy = readback.ask-then-copy
 
 -- ---- states
 pub found-again : FoundAgain

@@ -1,6 +1,7 @@
 -- Laws that several proofs cite, and the claims.
 pub mod Narrowed
 pub mod Lines
+pub mod Readback
 pub mod Times
 pub mod Kept
 pub mod Push

@@ -3,13 +3,13 @@
 use Prim.Native.Nat.{ℕ, _*_, _<_, min}
 use mathlib.Core.Path.{_≡_, sym, ap, _∙_}
 use mathlib.Core.Bool.{Bool, true, cond, _&&_}
-use mathlib.Core.List.{List, [], _∷_}
+use mathlib.Core.List.{List, [], _∷_, _++_}
 use native.Mathlib.Omega.{arith}
-use lib.Dec.{leb}
+use lib.Dec.{leb, lit<}
 use borrow.Author.Tests.{leb-true, lt-ltb}
 use Rattle.laws.proofs.Bools.{halves}
 use Rattle.laws.specs.Refusal.{lowest, rising}
-use Rattle.laws.proofs.Refusal.{all-pass, lowest-alike}
+use Rattle.laws.proofs.Refusal.{all-pass, first-passes, rest-passes, lowest-alike}
 use Rattle.plane.specs.declared.Shape.{Shape}
 use Rattle.plane.specs.declared.Grid.{Grid}
 use Rattle.plane.specs.Plane.{gridShape, goodShape, planeBytes, agree}
@@ -21,7 +21,7 @@ use Rattle.weave.specs.declared.Field.{Field}
 use Rattle.weave.specs.Weave.{givenOf, goodLines, goodField, chromaFits, fieldsAgree, whole, roomFor, weaveTests, weaveNo, lineTests, lineNo}
 use Rattle.weave.proofs.Judged.{each-of-three}
 use Rattle.readback.specs.declared.Readback.{Readback}
-use Rattle.readback.specs.Readback.{lumaShape, cbShape, crShape, crBytes, packedBytes, readbackTests, readbackNo}
+use Rattle.readback.specs.Readback.{lumaShape, cbShape, crShape, crBytes, sizesOf, sizesTests, outputsHold}
 use Rattle.weavedesk.specs.declared.FieldNumbers.{FieldNumbers}
 use Rattle.weavedesk.specs.declared.ReadbackNumbers.{ReadbackNumbers}
 use Rattle.weavedesk.specs.Woven.{fieldNamed, readbackNamed}
@@ -127,6 +127,13 @@ module _ (t : GridNumbers) (top-bytes : ℕ) (b : GridNumbers) (bottom-bytes y :
 
 -- ---- a frame read back
 
+-- behind the tests of the planes the question has none, and the copy has 7
+abbrev pub nothing : Readback → List (ℕ × Bool)
+nothing r = []
+
+abbrev pub seven : ℕ → ℕ → ℕ → Readback → List (ℕ × Bool)
+seven luma-room cb-room cr-room r = (7, outputsHold (sizesOf r) luma-room cb-room cr-room) ∷ []
+
 abbrev shapesGood : Readback → Bool
 shapesGood r = goodShape (lumaShape r) && goodShape (cbShape r) && goodShape (crShape r)
 
@@ -170,26 +177,25 @@ module _ (n : ReadbackNumbers) where
   counts-same =
       one-verdict (counts (min (n .planes) 255)) (counts (n .planes)) (λ e. sym (ap counts (uncut-too e)) ∙ e) (λ e. ap counts (uncut e) ∙ e)
 
-  module _ (first second third luma-room cb-room cr-room : ℕ) where
-    abbrev readNumber : Readback → ℕ
-    readNumber r = readbackNo r first second third luma-room cb-room cr-room
+  -- the tests of the planes, and whatever stands behind them
+  module _ (first second third : ℕ) (more : Readback → List (ℕ × Bool)) where
+    abbrev testsOf : Readback → List (ℕ × Bool)
+    testsOf r = sizesTests r first second third ++ more r
 
-    few : min (n .planes) 255 ≡ n .planes → readNumber (readbackCut n) ≡ readNumber (readbackNamed n)
+    few : min (n .planes) 255 ≡ n .planes → lowest (testsOf (readbackCut n)) ≡ lowest (testsOf (readbackNamed n))
     unfolding lowest
     few count =
         let rest =
         judged (shapes-narrowed count) 4
         (λ (r : Readback).
-        (6, leb (planeBytes (lumaShape r)) first && leb (planeBytes (cbShape r)) second && leb (planeBytes (crShape r)) (crBytes r second third))
-        ∷ (7, leb (packedBytes (lumaShape r)) luma-room && leb (packedBytes (cbShape r)) cb-room && leb (packedBytes (crShape r)) cr-room)
-        ∷ []) in
+        (6, leb (planeBytes (lumaShape r)) first && leb (planeBytes (cbShape r)) second && leb (planeBytes (crShape r)) (crBytes r second third)) ∷ more r) in
         (λ i. cond (counts (count i)) (cond (leb 2 (count i)) (rest i) 2) 1)
 
-    pub readback-number : readNumber (readbackCut n) ≡ readNumber (readbackNamed n)
+    pub readback-number : lowest (testsOf (readbackCut n)) ≡ lowest (testsOf (readbackNamed n))
     readback-number = lowest-alike 1 _ _ counts-same (λ e. few (uncut e))
 
-    pub readback-same : readNumber (readbackNamed n) ≡ 0 → readbackCut n ≡ readbackNamed n
-    unfolding rising
+    pub readback-same : lowest (testsOf (readbackNamed n)) ≡ 0 → readbackCut n ≡ readbackNamed n
     readback-same done =
-        let tests = all-pass (readbackTests (readbackNamed n) first second third luma-room cb-room cr-room) tt done in
-        shapes-narrowed (uncut (tests .0)) .from-given (tests .1 .1 .0)
+        let behind-one = rest-passes 1 _ _ (lit< tt) done in
+        let behind-two = rest-passes 2 _ _ (lit< tt) behind-one in
+        shapes-narrowed (uncut (first-passes 1 _ _ (lit< tt) done)) .from-given (first-passes 4 _ _ (lit< tt) behind-two)

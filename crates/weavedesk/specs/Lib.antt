@@ -1,5 +1,6 @@
 -- The definitions that the exported functions' contracts cite, histories of calls, and the claims.
 pub mod Woven
+pub mod Readback
 pub mod Waiting
 pub mod Push
 pub mod Inner

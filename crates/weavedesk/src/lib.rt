@@ -5,6 +5,7 @@
 // lends.
 use field::Parity;
 use numbers::GridNumbers;
+use readback::Asked;
 use weaver::Paired;
 use weaver::Time;
 use weaver::Weaver;
@@ -12,9 +13,10 @@ ghost use mathlib.Core.Path.{_≡_};
 ghost use mathlib.Core.List.{[], _∷_};
 ghost use Prim.Native.Nat.{_≤_};
 ghost use lib.ListN.{length};
+ghost use Rattle.laws.specs.Refusal.{written};
 ghost use Rattle.numbers.specs.Numbers.{gridNamed};
 ghost use Rattle.weave.specs.Weave.{lentField, weaveNoOf, wovenAfter, lineNo, wovenFormat};
-ghost use Rattle.readback.specs.Readback.{lumaShape, cbShape, crShape, crBytes, readbackNoOf, copiedAfter};
+ghost use Rattle.readback.specs.Readback.{lumaShape, cbShape, crShape, crBytes, sizesOf, sizesNoOf, readbackNoOf, copiedAfter};
 ghost use Rattle.weaver.specs.Weaver.{pairedNo};
 ghost use Rattle.weavedesk.specs.Woven.{fieldNamed, lineOutNo, lineAfter, formatNamed, formatNumbers, readbackNamed, flagNamed, flagNumber};
 ghost use Rattle.weavedesk.specs.Waiting.{keeping, weaverIn, weaverNumbers, timeOf, wholeKind, wholeSize, timeKind, timeSize};
@@ -415,10 +417,38 @@ pub extern "C" fn desk_woven(field: FormatNumbers) -> FormatNumbers
     format_numbers(woven)
 }
 
-// A frame read back, without padding, in three planes. Of two planes the second has both chroma
-// components, and the third is not looked at. Numbers 1, 2, 4, 6 and 7.
+// How many bytes each output of `desk_readback_copy` needs for these planes. Of two planes the second
+// has both chroma components, and the third is not looked at. Numbers 1, 2, 4 and 6.
 #[no_mangle]
-pub extern "C" fn desk_readback(
+pub extern "C" fn desk_readback_sizes(
+    about: ReadbackNumbers,
+    luma: &[u8],
+    second: &[u8],
+    third: &[u8],
+    luma_bytes: &mut u64,
+    cb_bytes: &mut u64,
+    cr_bytes: &mut u64,
+) -> u8
+    ensures { λ r. ⌜ r ≡ sizesNoOf (readbackNamed about) luma second third ⌝ }
+    ensures { λ r. ⌜ now («luma_bytes» .exit) ≡ written r (sizesOf (readbackNamed about) .luma) (now («luma_bytes» .entry)) ⌝ }
+    ensures { λ r. ⌜ now («cb_bytes» .exit) ≡ written r (sizesOf (readbackNamed about) .cb) (now («cb_bytes» .entry)) ⌝ }
+    ensures { λ r. ⌜ now («cr_bytes» .exit) ≡ written r (sizesOf (readbackNamed about) .cr) (now («cr_bytes» .entry)) ⌝ }
+{
+    match readback::readback_sizes(readback_cut(about), luma, second, third) {
+        Asked::Value(sizes) => {
+            *luma_bytes = sizes.luma as u64;
+            *cb_bytes = sizes.cb as u64;
+            *cr_bytes = sizes.cr as u64;
+            0
+        }
+        Asked::Refused(no) => no,
+    }
+}
+
+// A frame read back, without padding, in three planes, each at the start of its output. The planes are
+// judged as for `desk_readback_sizes`, whether it was called or not. Numbers 1, 2, 4, 6 and 7.
+#[no_mangle]
+pub extern "C" fn desk_readback_copy(
     about: ReadbackNumbers,
     luma: &[u8],
     second: &[u8],
@@ -432,7 +462,7 @@ pub extern "C" fn desk_readback(
     ensures { λ r. ⌜ now («out_cb» .exit) ≡ copiedAfter r (now (second .entry)) (cbShape (readbackNamed about)) (now («out_cb» .entry)) ⌝ }
     ensures { λ r. ⌜ now («out_cr» .exit) ≡ copiedAfter r (crBytes (readbackNamed about) (now (second .entry)) (now (third .entry))) (crShape (readbackNamed about)) (now («out_cr» .entry)) ⌝ }
 {
-    readback::frame_of_readback(
+    readback::readback_copy(
         out_luma,
         out_cb,
         out_cr,

@@ -1,10 +1,8 @@
 use mathlib.Core.Path.{ap, _∙_}
-use mathlib.Core.Bool.{_&&_}
-use lib.Dec.{leb}
 use Rattle.readback.specs.Readback.{packedBytes}
 use borrow.Author.Needs.{needs}
-use Rattle.readback.proofs.outputs_hold.Statement.{statement}
-use Rattle.readback.proofs.outputs_hold.Tie as tie
+use Rattle.readback.proofs.sizes_of.Statement.{statement}
+use Rattle.readback.proofs.sizes_of.Tie as tie
 
 luma-shape-requires : tie.Need-luma-shape-requires
 luma-shape-requires c κs = search needs
@@ -26,14 +24,13 @@ packed-bytes-requires-3 c κs = search needs
 
 returns : tie.Need-returns
 returns c =
-    let a = c .before .before .before .before .before .before .args in
     let luma = c .before .before .before .before .packed-bytes .ensures ∙ ap packedBytes (c .before .before .before .before .before .luma-shape .ensures) in
     let cb = c .before .before .packed-bytes2 .ensures ∙ ap packedBytes (c .before .before .before .cb-shape .ensures) in
     let cr = c .packed-bytes3 .ensures ∙ ap packedBytes (c .before .cr-shape .ensures) in
-    λ i. leb (luma i) (a .luma-room) && leb (cb i) (a .cb-room) && leb (cr i) (a .cr-room)
+    λ i. record { luma = luma i; cb = cb i; cr = cr i }
 
-pub outputs-hold-spec : {M : Type 1} → statement M
-outputs-hold-spec =
+pub sizes-of-spec : {M : Type 1} → statement M
+sizes-of-spec =
     tie.close
     (tie.spec
     luma-shape-requires

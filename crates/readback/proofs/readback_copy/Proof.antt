@@ -1,26 +1,43 @@
-use mathlib.Core.Path.{refl}
+use mathlib.Core.Path.{_≡_, refl, _∙_}
 use lib.ListN.{length}
 use denote.Ref.{now}
-use Rattle.readback.specs.Readback.{lumaShape, cbShape, crShape, crBytes}
+use Rattle.readback.specs.Readback.{lumaShape, cbShape, crShape, crBytes, readbackNo}
 use Rattle.laws.proofs.Refusal.{stays}
-use Rattle.readback.proofs.Passed.{FrameReady, frame-passed, copy-written}
+use Rattle.readback.proofs.Passed.{FrameReady, copy-number, frame-passed, copy-written}
 use borrow.Author.Needs.{needs}
-use Rattle.readback.proofs.frame_of_readback.Statement.{statement}
-use Rattle.readback.proofs.frame_of_readback.Tie as tie
+use Rattle.readback.proofs.readback_copy.Statement.{statement}
+use Rattle.readback.proofs.readback_copy.Tie as tie
 
--- what was tested, where the number is 0
+-- the number
+judged :
+    (t : tie.After-copy-no) →
+    let a = t .before .before .before .before .before .before .before .before .args in
+    t .copy-no .result
+    ≡ readbackNo (a .about) (length (now (a .luma))) (length (now (a .second))) (length (now (a .third))) (length (now (a .out-luma)))
+    (length (now (a .out-cb))) (length (now (a .out-cr)))
+judged t =
+    let a = t .before .before .before .before .before .before .before .before .args in
+    let asked = t .before .readback-sizes in
+    t .copy-no .ensures
+    ∙ copy-number (a .about) (length (now (a .luma))) (length (now (a .second))) (length (now (a .third))) (length (now (a .out-luma)))
+    (length (now (a .out-cb))) (length (now (a .out-cr))) (asked .result) (record { number-is = asked .ensures .0; values-are = asked .ensures .1 })
+
+-- what was tested, where it is 0
 passed :
     (t : tie.Then1) →
-    let a = t .before .before .before .before .before .before .before .before .args in
+    let a = t .before .before .before .before .before .before .before .before .before .args in
     FrameReady (a .about) (length (now (a .luma))) (length (now (a .second))) (length (now (a .third))) (length (now (a .out-luma)))
     (length (now (a .out-cb))) (length (now (a .out-cr)))
 passed t =
-    let a = t .before .before .before .before .before .before .before .before .args in
+    let a = t .before .before .before .before .before .before .before .before .before .args in
     frame-passed (a .about) (length (now (a .luma))) (length (now (a .second))) (length (now (a .third))) (length (now (a .out-luma)))
-    (length (now (a .out-cb))) (length (now (a .out-cr))) (t .before .readback-no .ensures) (t .if1 .taken)
+    (length (now (a .out-cb))) (length (now (a .out-cr))) (judged (t .before)) (t .if1 .taken)
 
-readback-no-requires : tie.Need-readback-no-requires
-readback-no-requires c κs = search needs
+readback-sizes-requires : tie.Need-readback-sizes-requires
+readback-sizes-requires c κs = search needs
+
+copy-no-requires : tie.Need-copy-no-requires
+copy-no-requires c κs = search needs
 
 luma-shape-requires : tie.Need-luma-shape-requires
 luma-shape-requires c κs = search needs
@@ -51,9 +68,9 @@ returns c =
     let luma = c .before .before .before .before .before .before .before .before .before .before .before in
     let cb = c .before .before .before .before .before .before in
     let test = luma .before .before .before in
-    let a = test .before .before .before .before .before .before .before .before .args in
+    let a = test .before .before .before .before .before .before .before .before .before .args in
     let done = test .if1 .taken in (
-      test .before .readback-no .ensures,
+      judged (test .before),
       (
         copy-written (now (a .luma)) (now (a .out-luma)) (lumaShape (a .about)) done (luma .before .luma-shape .ensures) (luma .copy-rows .ensures),
         (
@@ -65,13 +82,14 @@ returns c =
     )
 
 returns-2 : tie.Need-returns-2
-returns-2 c = (c .before .readback-no .ensures, (stays _ _ (c .if1 .left), (stays _ _ (c .if1 .left), stays _ _ (c .if1 .left))))
+returns-2 c = (judged (c .before), (stays _ _ (c .if1 .left), (stays _ _ (c .if1 .left), stays _ _ (c .if1 .left))))
 
-pub frame-of-readback-spec : {M : Type 1} → statement M
-frame-of-readback-spec =
+pub readback-copy-spec : {M : Type 1} → statement M
+readback-copy-spec =
     tie.close
     (tie.spec
-    readback-no-requires
+    readback-sizes-requires
+    copy-no-requires
     luma-shape-requires
     copy-rows-requires
     cb-shape-requires

@@ -1,7 +1,7 @@
 use Rattle.laws.specs.Refusal.{lowest}
 use borrow.Author.Needs.{needs}
-use Rattle.readback.proofs.readback_no.Statement.{statement}
-use Rattle.readback.proofs.readback_no.Tie as tie
+use Rattle.readback.proofs.sizes_no.Statement.{statement}
+use Rattle.readback.proofs.sizes_no.Tie as tie
 
 counts-requires : tie.Need-counts-requires
 counts-requires c κs = search needs
@@ -11,9 +11,6 @@ good-shapes-requires c κs = search needs
 
 planes-reach-requires : tie.Need-planes-reach-requires
 planes-reach-requires c κs = search needs
-
-outputs-hold-requires : tie.Need-outputs-hold-requires
-outputs-hold-requires c κs = search needs
 
 test-requires : tie.Need-test-requires
 test-requires c κs = search needs
@@ -27,24 +24,19 @@ test-requires-3 c κs = search needs
 test-requires-4 : tie.Need-test-requires-4
 test-requires-4 c κs = search needs
 
-test-requires-5 : tie.Need-test-requires-5
-test-requires-5 c κs = search needs
-
 returns : tie.Need-returns
 unfolding lowest
 returns c = cc
 
-pub readback-no-spec : {M : Type 1} → statement M
-readback-no-spec =
+pub sizes-no-spec : {M : Type 1} → statement M
+sizes-no-spec =
     tie.close
     (tie.spec
     good-shapes-requires
     planes-reach-requires
-    outputs-hold-requires
     counts-requires
     test-requires
     test-requires-2
     test-requires-3
     test-requires-4
-    test-requires-5
     returns)

@@ -1,0 +1,42 @@
+use Prim.Native.Nat.{ℕ}
+use mathlib.Core.Path.{sym, ap, _∙_}
+use mathlib.Core.Bool.{Bool, cond}
+use Rattle.readback.specs.declared.Asked.{Asked}
+use Rattle.readback.specs.Inner.{copyNo}
+use borrow.Author.Needs.{needs}
+use Rattle.readback.proofs.copy_no.Statement.{statement}
+use Rattle.readback.proofs.copy_no.Tie as tie
+
+enum-known-asked : tie.Need-enum-known-asked
+enum-known-asked c = search needs
+
+outputs-hold-requires : tie.Need-outputs-hold-requires
+outputs-hold-requires c κs = search needs
+
+test-requires : tie.Need-test-requires
+test-requires c κs = search needs
+
+enum-known-asked-2 : tie.Need-enum-known-asked-2
+enum-known-asked-2 c = search needs
+
+returns : tie.Need-returns
+returns c =
+    let known = c .before .before .before in
+    let a = known .before .before .args in
+    c .test .ensures
+    ∙ ap (λ (hold : Bool). cond hold 0 7) (c .before .outputs-hold .ensures)
+    ∙ ap (λ (asked : Asked). copyNo asked (a .luma-room) (a .cb-room) (a .cr-room)) (sym (known .asked .given .1))
+
+returns-2 : tie.Need-returns-2
+returns-2 c = search needs
+
+pub copy-no-spec : {M : Type 1} → statement M
+copy-no-spec =
+    tie.close
+    (tie.spec
+    enum-known-asked
+    outputs-hold-requires
+    test-requires
+    enum-known-asked-2
+    returns
+    returns-2)
