@@ -19,9 +19,10 @@ use Rattle.plane.specs.declared.Shape.{Shape}
 use Rattle.plane.specs.Plane.{sampleBytes, fullCode, wordOf, codeOf}
 use Rattle.readback.specs.declared.Readback.{Readback}
 use Rattle.readback.specs.declared.Sizes.{Sizes}
+use Rattle.readback.specs.declared.Asked.the-variants.{Value, Refused}
 use Rattle.readback.specs.Readback.{lumaShape, cbShape, crShape, crBytes, packedBytes, sizesOf, sizesTests, sizesNo, outputsHold, readbackTests, readbackNo}
 use Rattle.readback.specs.Readback.{wordBytes, copiedRow, copiedOf, copiedAfter}
-use Rattle.readback.specs.Claims.{SizesSays, ReadbackSays, Shorter, Follows, CopyFollows, JustFills, SizesPacked, CopiedSize, WordsKept, CodesKept}
+use Rattle.readback.specs.Claims.{SizesSays, ReadbackSays, OneAsked, Shorter, Follows, CopyFollows, JustFills, SizesPacked, CopiedSize, WordsKept, CodesKept}
 use Rattle.readback.proofs.Rows.{length-word, length-copied}
 use Rattle.readback.proofs.Passed.{seven-behind, refusal-stands}
 
@@ -32,6 +33,12 @@ sizes-says r luma second third = lowest-says (sizesTests r luma second third) tt
 pub readback-says : ReadbackSays
 unfolding rising
 readback-says r luma second third luma-room cb-room cr-room = lowest-says (readbackTests r luma second third luma-room cb-room cr-room) tt
+
+pub one-asked : OneAsked
+one-asked (Value sizes) (Value other) numbers values = cc
+one-asked (Value sizes) (Refused n) numbers values = cc
+one-asked (Refused n) (Value sizes) numbers values = cc
+one-asked (Refused n) (Refused m) numbers values = cc
 
 pub copied-size : CopiedSize
 unfolding copiedOf

@@ -11,8 +11,9 @@ use Rattle.plane.specs.declared.Layout.the-variants.{Planar}
 use Rattle.plane.specs.Plane.{sampleBytes, wordOf, codeOf, half}
 use Rattle.readback.specs.declared.Readback.{Readback}
 use Rattle.readback.specs.declared.Sizes.{Sizes}
+use Rattle.readback.specs.declared.Asked.{Asked}
 use Rattle.readback.specs.Readback.{lumaShape, cbShape, crShape, crBytes, packedBytes, sizesOf, sizesTests, sizesNo, readbackTests, readbackNo}
-use Rattle.readback.specs.Readback.{copiedOf, copiedAfter}
+use Rattle.readback.specs.Readback.{askedNo, askedValues, copiedOf, copiedAfter}
 
 -- ---- the numbers: 0 exactly when no number applies, and otherwise the lowest that does, of each call's own tests
 
@@ -21,6 +22,10 @@ SizesSays = (r : Readback) (luma second third : ℕ) → Says (sizesTests r luma
 
 abbrev pub ReadbackSays : Type 0
 ReadbackSays = (r : Readback) (luma second third luma-room cb-room cr-room : ℕ) → Says (readbackTests r luma second third luma-room cb-room cr-room)
+
+-- number and sizes leave no choice: a contract that settles both settles the answer
+abbrev pub OneAsked : Type 0
+OneAsked = (a b : Asked) → askedNo a ≡ askedNo b → askedValues a ≡ askedValues b → a ≡ b
 
 -- ---- the two calls
 

@@ -6,12 +6,18 @@ use mathlib.Core.List.{List, [], _∷_}
 use lib.Dec.{leb}
 use lib.ListN.{length, getD}
 use Rattle.plane.specs.declared.Shape.{Shape}
-use Rattle.plane.specs.Plane.{alone, goodShape, planeBytes}
+use Rattle.plane.specs.declared.Layout.{Layout}
+use Rattle.plane.specs.Plane.{alone, goodShape, planeBytes, half}
+use Rattle.readback.specs.declared.Readback.{Readback}
 use Rattle.readback.specs.declared.Asked.{Asked}
 use Rattle.readback.specs.declared.Asked.the-variants.{Value, Refused}
 use Rattle.readback.specs.declared.Kind.{Kind}
 use Rattle.readback.specs.declared.Kind.the-variants.{Byte, EverySecondByte, Pair, EverySecondPair}
 use Rattle.readback.specs.Readback.{packedBytes, outputsHold}
+
+-- of chroma, which has half the columns and half the rows
+abbrev pub chromaShape : Readback → ℕ → Layout → Shape
+chromaShape r pitch layout = record { width = half (r .width); height = half (r .height); depth = r .depth; stride = pitch; layout = layout }
 
 -- the copy's number from what the question got: its refusal, or 7 where there is no room
 abbrev pub copyNo : Asked → ℕ → ℕ → ℕ → ℕ

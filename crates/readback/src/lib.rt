@@ -16,7 +16,7 @@ ghost use Rattle.laws.specs.Rows.{laid, over};
 ghost use Rattle.plane.specs.declared.Layout.the-variants.{Luma};
 ghost use Rattle.plane.specs.Plane.{sampleBytes, goodShape, planeBytes};
 ghost use Rattle.readback.specs.Readback.{lumaShape, shared, cbShape, crShape, crBytes, packedBytes, sizesOf, askedNo, askedValues, sizesNo, outputsHold, sizesNoOf, readbackNoOf, copiedOf, copiedAfter};
-ghost use Rattle.readback.specs.Inner.{copyNo, kindOf, stepOf, copyIn, RowRoom, PlaneReady};
+ghost use Rattle.readback.specs.Inner.{chromaShape, copyNo, kindOf, stepOf, copyIn, RowRoom, PlaneReady};
 ghost use Rattle.readback.specs.declared.Kind.the-variants.{Byte, EverySecondByte, Pair, EverySecondPair};
 use plane::Layout;
 use plane::Shape;
@@ -85,19 +85,25 @@ fn luma_shape(about: Readback) -> Shape
     }
 }
 
-fn cb_shape(about: Readback) -> Shape
-    ensures { λ r. ⌜ r ≡ cbShape about ⌝ }
+fn chroma_shape(about: Readback, pitch: u32, layout: Layout) -> Shape
+    ensures { λ r. ⌜ r ≡ chromaShape about pitch layout ⌝ }
 {
     let columns = plane::half_of(about.width);
     let rows = plane::half_of(about.height);
-    let layout = chroma_layout(about, Layout::First);
     Shape {
         width: columns,
         height: rows,
         depth: about.depth,
-        stride: about.second_pitch,
+        stride: pitch,
         layout: layout,
     }
+}
+
+fn cb_shape(about: Readback) -> Shape
+    ensures { λ r. ⌜ r ≡ cbShape about ⌝ }
+{
+    let layout = chroma_layout(about, Layout::First);
+    chroma_shape(about, about.second_pitch, layout)
 }
 
 fn cr_pitch(about: Readback) -> u32
@@ -113,17 +119,9 @@ fn cr_pitch(about: Readback) -> u32
 fn cr_shape(about: Readback) -> Shape
     ensures { λ r. ⌜ r ≡ crShape about ⌝ }
 {
-    let columns = plane::half_of(about.width);
-    let rows = plane::half_of(about.height);
     let pitch = cr_pitch(about);
     let layout = chroma_layout(about, Layout::Second);
-    Shape {
-        width: columns,
-        height: rows,
-        depth: about.depth,
-        stride: pitch,
-        layout: layout,
-    }
+    chroma_shape(about, pitch, layout)
 }
 
 // ---- the number
@@ -213,11 +211,10 @@ pub fn readback_sizes(about: Readback, luma: &[u8], second: &[u8], third: &[u8])
     ensures { λ r. ⌜ askedValues r ≡ whenDone (sizesNoOf about luma second third) (sizesOf about) ⌝ }
 {
     let no = sizes_no(about, luma.len(), second.len(), third.len());
-    if no == 0 {
-        Asked::Value(sizes_of(about))
-    } else {
-        Asked::Refused(no)
+    if no != 0 {
+        return Asked::Refused(no);
     }
+    Asked::Value(sizes_of(about))
 }
 
 fn outputs_hold(sizes: Sizes, luma_room: usize, cb_room: usize, cr_room: usize) -> bool

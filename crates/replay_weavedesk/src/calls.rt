@@ -4,7 +4,7 @@ use crate::names;
 use answers::lent;
 
 // How many there are.
-pub const COUNT: usize = 8;
+pub const COUNT: usize = 9;
 
 // A call's name at the desk without `desk_`, to standard output.
 pub fn say_name(call: usize) {
@@ -13,9 +13,10 @@ pub fn say_name(call: usize) {
         1 => names::say(b"line_number"),
         2 => names::say(b"woven_line"),
         3 => names::say(b"woven"),
-        4 => names::say(b"readback"),
-        5 => names::say(b"weaver_new"),
-        6 => names::say(b"weaver_clear"),
+        4 => names::say(b"readback_sizes"),
+        5 => names::say(b"readback_copy"),
+        6 => names::say(b"weaver_new"),
+        7 => names::say(b"weaver_clear"),
         _ => names::say(b"weaver_push"),
     }
 }
@@ -147,8 +148,33 @@ fn woven(answer: &[u8]) -> bool {
         & answers::same_word(answer, 15, found.woven)
 }
 
-fn readback_to(answer: &[u8], out_luma: &mut [u8], out_cb: &mut [u8], out_cr: &mut [u8]) -> bool {
-    let found = weavedesk::desk_readback(
+fn readback_sizes(answer: &[u8]) -> bool {
+    let mut luma_bytes = lent::NUMBER;
+    let mut cb_bytes = lent::NUMBER;
+    let mut cr_bytes = lent::NUMBER;
+    let found = weavedesk::desk_readback_sizes(
+        readback_numbers(answer, 0),
+        answers::bytes(answer, 11, 0),
+        answers::bytes(answer, 11, 1),
+        answers::bytes(answer, 11, 2),
+        &mut luma_bytes,
+        &mut cb_bytes,
+        &mut cr_bytes,
+    );
+    answers::whole(answer, 11, 3)
+        & answers::same_byte(answer, 7, found)
+        & answers::same(answer, 8, luma_bytes)
+        & answers::same(answer, 9, cb_bytes)
+        & answers::same(answer, 10, cr_bytes)
+}
+
+fn readback_copy_to(
+    answer: &[u8],
+    out_luma: &mut [u8],
+    out_cb: &mut [u8],
+    out_cr: &mut [u8],
+) -> bool {
+    let found = weavedesk::desk_readback_copy(
         readback_numbers(answer, 0),
         answers::bytes(answer, 8, 0),
         answers::bytes(answer, 8, 1),
@@ -164,14 +190,14 @@ fn readback_to(answer: &[u8], out_luma: &mut [u8], out_cb: &mut [u8], out_cr: &m
         & check::same(out_cr, answers::bytes(answer, 8, 5))
 }
 
-fn readback(answer: &[u8]) -> bool {
+fn readback_copy(answer: &[u8]) -> bool {
     let mut out_luma = [lent::BYTE; 4096];
     let mut out_cb = [lent::BYTE; 4096];
     let mut out_cr = [lent::BYTE; 4096];
     let out_luma_room = answers::room(answers::bytes(answer, 8, 3), 4096);
     let out_cb_room = answers::room(answers::bytes(answer, 8, 4), 4096);
     let out_cr_room = answers::room(answers::bytes(answer, 8, 5), 4096);
-    let gave = readback_to(
+    let gave = readback_copy_to(
         answer,
         &mut out_luma[0..out_luma_room],
         &mut out_cb[0..out_cb_room],
@@ -275,9 +301,10 @@ pub fn replayed(call: usize, answer: &[u8], state: &mut [u8], store: &mut [u8]) 
         1 => line_number(answer),
         2 => woven_line(answer),
         3 => woven(answer),
-        4 => readback(answer),
-        5 => weaver_new(answer, state),
-        6 => weaver_clear(answer, state),
+        4 => readback_sizes(answer),
+        5 => readback_copy(answer),
+        6 => weaver_new(answer, state),
+        7 => weaver_clear(answer, state),
         _ => weaver_push(answer, state, store),
     }
 }

@@ -9,8 +9,10 @@ use Rattle.weavedesk.proofs.desk_woven_line.Kinds as desk-woven-line-kinds
 use Rattle.weavedesk.proofs.desk_woven_line.Reads as desk-woven-line
 use Rattle.weavedesk.proofs.desk_woven.Kinds as desk-woven-kinds
 use Rattle.weavedesk.proofs.desk_woven.Reads as desk-woven
-use Rattle.weavedesk.proofs.desk_readback.Kinds as desk-readback-kinds
-use Rattle.weavedesk.proofs.desk_readback.Reads as desk-readback
+use Rattle.weavedesk.proofs.desk_readback_sizes.Kinds as desk-readback-sizes-kinds
+use Rattle.weavedesk.proofs.desk_readback_sizes.Reads as desk-readback-sizes
+use Rattle.weavedesk.proofs.desk_readback_copy.Kinds as desk-readback-copy-kinds
+use Rattle.weavedesk.proofs.desk_readback_copy.Reads as desk-readback-copy
 use Rattle.weavedesk.proofs.desk_weaver_new.Kinds as desk-weaver-new-kinds
 use Rattle.weavedesk.proofs.desk_weaver_new.Reads as desk-weaver-new
 use Rattle.weavedesk.proofs.desk_weaver_clear.Kinds as desk-weaver-clear-kinds
@@ -37,9 +39,15 @@ desk-woven-line-once =
 pub desk-woven-once : OneAnswer 0 desk-woven-kinds.ps desk-woven-kinds.r desk-woven.Post
 desk-woven-once κs a x y u v p q = (same p q, refl)
 
-pub desk-readback-once : OneAnswer 6 desk-readback-kinds.ps desk-readback-kinds.r desk-readback.Post
-desk-readback-once =
-    once 6 desk-readback-kinds.ps desk-readback-kinds.r desk-readback.Post (λ κs a x y s t p q. same (p .0) (q .0))
+pub desk-readback-sizes-once : OneAnswer 6 desk-readback-sizes-kinds.ps desk-readback-sizes-kinds.r desk-readback-sizes.Post
+desk-readback-sizes-once =
+    once 6 desk-readback-sizes-kinds.ps desk-readback-sizes-kinds.r desk-readback-sizes.Post (λ κs a x y s t p q. same (p .0) (q .0))
+    (λ κs a x u v p q. refl and refl and refl and refl and same (p .1 .0) (q .1 .0) and same (p .1 .1 .0) (q .1 .1 .0)
+    and same (p .1 .1 .1) (q .1 .1 .1) and refl)
+
+pub desk-readback-copy-once : OneAnswer 6 desk-readback-copy-kinds.ps desk-readback-copy-kinds.r desk-readback-copy.Post
+desk-readback-copy-once =
+    once 6 desk-readback-copy-kinds.ps desk-readback-copy-kinds.r desk-readback-copy.Post (λ κs a x y s t p q. same (p .0) (q .0))
     (λ κs a x u v p q. refl and refl and refl and refl and same (p .1 .0) (q .1 .0) and same (p .1 .1 .0) (q .1 .1 .0)
     and same (p .1 .1 .1) (q .1 .1 .1) and refl)
 

@@ -1,6 +1,6 @@
--- The contracts of the exported calls on a weaver are what the histories take them for: each, read as a plain type over the parameters of its
--- signature in their order, comes to the number, the places and the lists that History and Push give. So a contract that means other parameters is
--- refused here, though its code meet it.
+-- The contracts of the exported calls on a weaver are what the histories take them for, and those of the two calls on a frame read back what Readback
+-- takes them for: each, read as a plain type over the parameters of its signature in their order, comes to the number, the places and the lists that
+-- are given there. So a contract that means other parameters is refused here, though its code meet it.
 use Prim.Native.Nat.{ℕ}
 use mathlib.Core.Path.{_≡_, ap, _∙_}
 use mathlib.Core.List.{List}
@@ -9,14 +9,43 @@ use contract.Lifetimes.{Lfts}
 use denote.Ref.{now}
 use borrow.Fn.Kinds.{Dens}
 use Rattle.laws.specs.Contracts.{Comes}
+use Rattle.weavedesk.specs.Readback.{Frame, Three, lengths, askNo, placesAfter, copyNo, outputsAfter}
 use Rattle.weavedesk.specs.Push.{Lent, Offer, emptied, stateAfter, storeAfter, lumaAfter, cbAfter, crAfter, pictureAfter, timedAfter, timeAfter}
 use Rattle.weavedesk.specs.History.{new, clear, numberOf, next, Pushed}
+use Rattle.weavedesk.proofs.desk_readback_sizes.Kinds as sizes-kinds
+use Rattle.weavedesk.proofs.desk_readback_sizes.Reads as sizes-reads
+use Rattle.weavedesk.proofs.desk_readback_copy.Kinds as copy-kinds
+use Rattle.weavedesk.proofs.desk_readback_copy.Reads as copy-reads
 use Rattle.weavedesk.proofs.desk_weaver_new.Kinds as new-kinds
 use Rattle.weavedesk.proofs.desk_weaver_new.Reads as new-reads
 use Rattle.weavedesk.proofs.desk_weaver_clear.Kinds as clear-kinds
 use Rattle.weavedesk.proofs.desk_weaver_clear.Reads as clear-reads
 use Rattle.weavedesk.proofs.desk_weaver_push.Kinds as push-kinds
 use Rattle.weavedesk.proofs.desk_weaver_push.Reads as push-reads
+
+-- ---- a frame read back
+
+abbrev threeOf : {A : Type 0} → A → A → A → Three A
+threeOf luma cb cr = record { luma = luma; cb = cb; cr = cr }
+
+-- the numbers and the three planes come first, and behind them the places or the outputs for luma, cb and cr
+pub sizes-comes :
+    Comes 6 sizes-kinds.ps sizes-kinds.r sizes-reads.Post
+    (λ κs a x s.
+    let f : Frame = record { about = a .0; luma = now (a .1 .0); second = now (a .1 .1 .0); third = now (a .1 .1 .1 .0) } in
+    let places = threeOf (now (a .1 .1 .1 .1 .0)) (now (a .1 .1 .1 .1 .1 .0)) (now (a .1 .1 .1 .1 .1 .1 .0)) in
+    (x ≡ askNo f) × (threeOf (now (s .1 .1 .1 .1 .0)) (now (s .1 .1 .1 .1 .1 .0)) (now (s .1 .1 .1 .1 .1 .1 .0)) ≡ placesAfter x f places))
+sizes-comes κs a x s met = (met .0, λ i. threeOf (met .1 .0 i) (met .1 .1 .0 i) (met .1 .1 .1 i))
+
+pub copy-comes :
+    Comes 6 copy-kinds.ps copy-kinds.r copy-reads.Post
+    (λ κs a x s.
+    let f : Frame = record { about = a .0; luma = now (a .1 .0); second = now (a .1 .1 .0); third = now (a .1 .1 .1 .0) } in
+    let outs = threeOf (now (a .1 .1 .1 .1 .0)) (now (a .1 .1 .1 .1 .1 .0)) (now (a .1 .1 .1 .1 .1 .1 .0)) in
+    (x ≡ copyNo f (lengths outs)) × (threeOf (now (s .1 .1 .1 .1 .0)) (now (s .1 .1 .1 .1 .1 .0)) (now (s .1 .1 .1 .1 .1 .1 .0)) ≡ outputsAfter x f outs))
+copy-comes κs a x s met = (met .0, λ i. threeOf (met .1 .0 i) (met .1 .1 .0 i) (met .1 .1 .1 i))
+
+-- ---- a weaver
 
 abbrev lentOf : List ℕ → List ℕ → Lent
 lentOf state store = record { state = state; store = store }

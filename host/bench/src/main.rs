@@ -302,10 +302,11 @@ fn contests() -> Vec<Contest> {
         weaves::woven_line(FULL, 8),
         weaves::woven_line(FULL, 10),
         values::woven(100_000),
-        weaves::readback(FULL, 8, 3),
-        weaves::readback(FULL, 8, 2),
-        weaves::readback(FULL, 10, 3),
-        weaves::readback(FULL, 10, 2),
+        weaves::readback_sizes(FULL, 100_000),
+        weaves::readback_copy(FULL, 8, 3),
+        weaves::readback_copy(FULL, 8, 2),
+        weaves::readback_copy(FULL, 10, 3),
+        weaves::readback_copy(FULL, 10, 2),
         weaves::weaver_new(100_000),
         weaves::weaver_clear(100_000),
         weaves::weaver_push(FULL, 8, false),
@@ -346,7 +347,8 @@ fn growth() -> Vec<Contest> {
     sizes(&|size| weaves::weave(size, 8));
     sizes(&|size| weaves::line_number(size, 10_000));
     sizes(&|size| weaves::woven_line(size, 8));
-    sizes(&|size| weaves::readback(size, 8, 2));
+    sizes(&|size| weaves::readback_sizes(size, 10_000));
+    sizes(&|size| weaves::readback_copy(size, 8, 2));
     sizes(&|size| weaves::weaver_push(size, 8, false));
 
     let mut counts = |counts: [u64; 4], what: &str, of: &dyn Fn(u64) -> Contest| {
@@ -381,7 +383,7 @@ fn shop() -> Vec<Contest> {
     let of = |size| {
         [
             weaves::weave(size, 8),
-            weaves::readback(size, 8, 2),
+            weaves::readback_copy(size, 8, 2),
             planes::comb(size, 8),
             films::busy(size, 8),
             films::push(size, 8).at_size(format!("{size}, 8 bits")),

@@ -1,4 +1,4 @@
-//! Fields into frames, by `weave`, a line and the weaver; and `readback`. The
+//! Fields into frames, by `weave`, a line and the weaver; and frames read back. The
 //! Rust makes its output anew.
 
 use std::hint::black_box;
@@ -167,14 +167,7 @@ pub fn woven_line(size: Size, depth: u32) -> Contest {
 }
 
 /// A frame of two planes (biplanar) or three, each row with 64 bytes of padding.
-pub fn readback(size: Size, depth: u32, planes: u32) -> Contest {
-    let input = format!("{size}, {depth} bits, {planes} planes");
-    Contest::new("readback", input, (size.pixels(), "pixel"), move || {
-        readback_sides(size, depth, planes)
-    })
-}
-
-fn readback_sides(size: Size, depth: u32, planes: u32) -> Sides {
+fn read_back(size: Size, depth: u32, planes: u32) -> (ReadbackNumbers, Readback) {
     let Size { width, height } = size;
     let row = width * bytes_a_sample(depth);
     let chroma = if planes == 2 { row } else { row / 2 };
@@ -194,7 +187,7 @@ fn readback_sides(size: Size, depth: u32, planes: u32) -> Sides {
         (chroma_pitch, height / 2),
     ];
     let all = sizes.into_iter().zip(1..).take(planes as usize);
-    let read = Rc::new(Readback {
+    let read = Readback {
         about: runs::readback::about(about),
         planes: all
             .map(|((pitch, height), seed)| {
@@ -202,27 +195,75 @@ fn readback_sides(size: Size, depth: u32, planes: u32) -> Sides {
                 (bytes, pitch as usize, 0)
             })
             .collect(),
-    });
-    let for_rattle = read.clone();
-    let size = (row * height) as usize;
-    let mut outs = [vec![0; size], vec![0; size / 4], vec![0; size / 4]];
-    Sides {
-        rattle: side(move || {
-            let mut planes: [&[u8]; 3] = [&[]; 3];
-            for (plane, (bytes, _, _)) in planes.iter_mut().zip(&black_box(&*for_rattle).planes) {
-                *plane = bytes;
-            }
-            let ([luma, second, third], [out_luma, out_cb, out_cr]) = (planes, &mut outs);
-            taken(desk::calls::readback(
-                about, luma, second, third, out_luma, out_cb, out_cr,
-            ));
-        }),
-        rust: Some(side(move || {
-            let frame = runs::readback::by_rust(black_box(&read));
-            black_box(frame.expect("an input of the benchmark is taken"));
-        })),
-        inlined: None,
+    };
+    (about, read)
+}
+
+fn planes_of(read: &Readback) -> [&[u8]; 3] {
+    let mut planes: [&[u8]; 3] = [&[]; 3];
+    for (plane, (bytes, _, _)) in planes.iter_mut().zip(&read.planes) {
+        *plane = bytes;
     }
+    planes
+}
+
+/// How long the outputs have to be.
+fn asked(about: ReadbackNumbers, [luma, second, third]: [&[u8]; 3]) -> [u64; 3] {
+    let [mut luma_bytes, mut cb_bytes, mut cr_bytes] = [0; 3];
+    taken(desk::calls::readback_sizes(
+        about,
+        luma,
+        second,
+        third,
+        &mut luma_bytes,
+        &mut cb_bytes,
+        &mut cr_bytes,
+    ));
+    [luma_bytes, cb_bytes, cr_bytes]
+}
+
+/// The question alone.
+pub fn readback_sizes(size: Size, calls: u64) -> Contest {
+    let input = format!("{size}, {calls} calls");
+    let sides = move || {
+        let (about, read) = read_back(size, 8, 2);
+        Sides {
+            rattle: again(calls, move || {
+                black_box(asked(black_box(about), planes_of(black_box(&read))));
+            }),
+            rust: None,
+            inlined: None,
+        }
+    };
+    Contest::new("readback_sizes", input, (calls, "call"), sides).beside("not in the original")
+}
+
+/// The question and the copy, as the Rust's one call does both.
+pub fn readback_copy(size: Size, depth: u32, planes: u32) -> Contest {
+    let input = format!("{size}, {depth} bits, {planes} planes");
+    let sides = move || {
+        let (about, read) = read_back(size, depth, planes);
+        let mut outs = asked(about, planes_of(&read)).map(|size| vec![0; size as usize]);
+        let read = Rc::new(read);
+        let for_rattle = read.clone();
+        Sides {
+            rattle: side(move || {
+                let planes = planes_of(black_box(&*for_rattle));
+                black_box(asked(black_box(about), planes));
+                let ([luma, second, third], [out_luma, out_cb, out_cr]) = (planes, &mut outs);
+                taken(desk::calls::readback_copy(
+                    about, luma, second, third, out_luma, out_cb, out_cr,
+                ));
+            }),
+            rust: Some(side(move || {
+                let frame = runs::readback::by_rust(black_box(&read));
+                black_box(frame.expect("an input of the benchmark is taken"));
+            })),
+            inlined: None,
+        }
+    };
+    Contest::new("readback_copy", input, (size.pixels(), "pixel"), sides)
+        .beside("both: sizes asked, then the copy")
 }
 
 pub fn weaver_new(calls: u64) -> Contest {

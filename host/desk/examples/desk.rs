@@ -1,17 +1,22 @@
 //! What a capture desk does with the proved code: weaves fields, measures comb
-//! and what changed, makes a picture, and finds film in the counts of a reel.
+//! and what changed, reads a frame back, makes a picture, and finds film in the
+//! counts of a reel.
 //!
 //!     host/cargo run -p desk --example desk
 
 use std::error::Error;
 
 use desk::Parity::{Bottom, Top};
-use desk::{Conversion, Counts, Detector, Entry, Field, Frame, KeptFrame, Lines, Output, Quality};
-use desk::{busy_blocks, cadences, comb, comb_rgba, picture, weave};
+use desk::{Conversion, Counts, Detector, Entry, Field, Frame, KeptFrame, Lines, Output, Padded};
+use desk::{Quality, ReadPlanes, Readback};
+use desk::{busy_blocks, cadences, comb, comb_rgba, picture, readback, weave};
 
 /// Columns, and rows of a frame: a field has half as many rows.
 const WIDTH: u32 = 64;
 const HEIGHT: u32 = 48;
+
+/// Bytes from one row to the next in a device's memory.
+const PITCH: u32 = 80;
 
 /// What the nine numbers are for BT.709 in 8 bits, black at 16 and white at 235.
 const BT709: Conversion = Conversion {
@@ -42,6 +47,13 @@ fn field(luma: &[u8]) -> Field<'_> {
 /// The woven luma of a frame; what is woven has no padding.
 fn lines(luma: &[u8]) -> Lines<'_> {
     Lines::packed(luma, WIDTH, HEIGHT, 8)
+}
+
+/// As a device holds rows of so many bytes: each one padded.
+fn padded(rows: &[u8]) -> Vec<u8> {
+    let rows = rows.chunks(WIDTH as usize);
+    rows.flat_map(|row| [row, &[0; (PITCH - WIDTH) as usize]].concat())
+        .collect()
 }
 
 /// The reel of docs/RULES.md: busy blocks of the leading field and of the trailing.
@@ -75,6 +87,32 @@ fn main() -> Result<(), Box<dyn Error>> {
         let Counts { busy, total } = busy_blocks(lines(&combed), &kept, parity)?;
         println!("{parity:?} field: {busy} of {total} blocks changed");
     }
+
+    // A device hands the frame over with padding, and cb and cr in turn in one plane.
+    // `readback` asks how long the three planes are, makes room for them and copies.
+    let both: Vec<u8> = cb.iter().zip(&cr).flat_map(|(b, r)| [*b, *r]).collect();
+    let (luma, chroma) = (padded(&combed), padded(&both));
+    let plane = |bytes| Padded {
+        bytes,
+        stride: PITCH,
+    };
+    let [combed, cb, cr] = readback(Readback {
+        width: WIDTH,
+        height: HEIGHT,
+        depth: 8,
+        planes: ReadPlanes::Biplanar {
+            luma: plane(&luma),
+            chroma: plane(&chroma),
+        },
+    })?;
+    println!(
+        "read back: {} and {} bytes, without padding {}, {} and {}",
+        luma.len(),
+        chroma.len(),
+        combed.len(),
+        cb.len(),
+        cr.len()
+    );
 
     // The top field alone, its missing rows made; here no other frame is at hand.
     let frame = Frame::planar([&combed, &cb, &cr], WIDTH, HEIGHT, 8);

@@ -204,7 +204,11 @@ mod exported {
             bottom_lines: GridNumbers, y: u32, out: *mut u8, out_len: usize,
         ) -> u8;
         pub(super) fn desk_woven(field: FormatNumbers) -> FormatNumbers;
-        pub(super) fn desk_readback(
+        pub(super) fn desk_readback_sizes(
+            about: ReadbackNumbers, luma: *const u8, luma_len: usize, second: *const u8, second_len: usize,
+            third: *const u8, third_len: usize, luma_bytes: *mut u64, cb_bytes: *mut u64, cr_bytes: *mut u64,
+        ) -> u8;
+        pub(super) fn desk_readback_copy(
             about: ReadbackNumbers, luma: *const u8, luma_len: usize, second: *const u8, second_len: usize,
             third: *const u8, third_len: usize, out_luma: *mut u8, out_luma_len: usize, out_cb: *mut u8,
             out_cb_len: usize, out_cr: *mut u8, out_cr_len: usize,
@@ -507,17 +511,34 @@ pub fn woven(field: FormatNumbers) -> FormatNumbers {
     }
 }
 
-/// A frame read back, without padding, in three planes. Of two planes the second has both chroma
-/// components, and the third is not looked at. Gives 0; or 1, 2, 4, 6 or 7, and then all that is lent
-/// is as it was.
+/// How many bytes each output of `desk_readback_copy` needs for these planes. Of two planes the second
+/// has both chroma components, and the third is not looked at. Gives 0; or 1, 2, 4 or 6, and then all
+/// that is lent is as it was.
 #[inline]
-pub fn readback(
+pub fn readback_sizes(
+    about: ReadbackNumbers, luma: &[u8], second: &[u8], third: &[u8], luma_bytes: &mut u64, cb_bytes: &mut u64,
+    cr_bytes: &mut u64,
+) -> u8 {
+    // SAFETY: above.
+    unsafe {
+        exported::desk_readback_sizes(
+            about, luma.as_ptr(), luma.len(), second.as_ptr(), second.len(), third.as_ptr(), third.len(), luma_bytes,
+            cb_bytes, cr_bytes,
+        )
+    }
+}
+
+/// A frame read back, without padding, in three planes, each at the start of its output. The planes are
+/// judged as for `desk_readback_sizes`, whether it was called or not. Gives 0; or 1, 2, 4, 6 or 7, and
+/// then all that is lent is as it was.
+#[inline]
+pub fn readback_copy(
     about: ReadbackNumbers, luma: &[u8], second: &[u8], third: &[u8], out_luma: &mut [u8], out_cb: &mut [u8],
     out_cr: &mut [u8],
 ) -> u8 {
     // SAFETY: above.
     unsafe {
-        exported::desk_readback(
+        exported::desk_readback_copy(
             about, luma.as_ptr(), luma.len(), second.as_ptr(), second.len(), third.as_ptr(), third.len(),
             out_luma.as_mut_ptr(), out_luma.len(), out_cb.as_mut_ptr(), out_cb.len(), out_cr.as_mut_ptr(), out_cr.len(),
         )
@@ -575,7 +596,7 @@ pub struct Call {
 }
 
 /// All of them, those of an archive in the order of their numbers in the list that its program `replay_..` reads.
-pub const CALLS: [Call; 28] = [
+pub const CALLS: [Call; 29] = [
     Call { name: "to_rgb", archive: "desk", refusals: &[8] },
     Call { name: "quantise", archive: "desk", refusals: &[] },
     Call { name: "luma", archive: "desk", refusals: &[3] },
@@ -600,7 +621,8 @@ pub const CALLS: [Call; 28] = [
     Call { name: "line_number", archive: "weavedesk", refusals: &[3, 4, 5, 6] },
     Call { name: "woven_line", archive: "weavedesk", refusals: &[3, 4, 5, 6, 7] },
     Call { name: "woven", archive: "weavedesk", refusals: &[] },
-    Call { name: "readback", archive: "weavedesk", refusals: &[1, 2, 4, 6, 7] },
+    Call { name: "readback_sizes", archive: "weavedesk", refusals: &[1, 2, 4, 6] },
+    Call { name: "readback_copy", archive: "weavedesk", refusals: &[1, 2, 4, 6, 7] },
     Call { name: "weaver_new", archive: "weavedesk", refusals: &[7] },
     Call { name: "weaver_clear", archive: "weavedesk", refusals: &[6] },
     Call { name: "weaver_push", archive: "weavedesk", refusals: &[3, 4, 5, 6, 7] },

@@ -31,7 +31,7 @@
 //! |---|---|---|
 //! | pair fields as they come | [`Weaver`] | Fields and readback |
 //! | weave two fields, or one line of them | [`weave`], [`woven_line`], [`woven_format`] | Fields and readback |
-//! | take out padding and part shared chroma | [`readback`] | Fields and readback |
+//! | take out padding and part shared chroma | [`readback`]; into buffers of one's own [`readback_sizes`], [`readback_copy`] | Fields and readback |
 //! | find film in pictures, or in counts | [`Detector`], [`cadences`] | Runs, phases, cadence |
 //! | count what changed between two frames | [`KeptFrame`], [`busy_blocks`], [`Entry`] | Blocks and symbols |
 //! | see which field is first | [`first_field`] | Port order |
@@ -59,9 +59,9 @@
 //!
 //! # Buffers and threads
 //!
-//! A function here makes the buffers that it gives. Where they should be used again, [`calls`] has
-//! every call as it is exported: numbers and lent slices in, a number out. It is made from the
-//! exports' own source.
+//! A function here makes the buffers that it gives, but for [`readback_copy`]. Where they should be used
+//! again, [`calls`] has every call as it is exported: numbers and lent slices in, a number out. It is
+//! made from the exports' own source.
 //!
 //! The archives keep nothing between two calls: all state is in the bytes that the caller lends. So
 //! any thread may make any call at any time, and a [`Detector`] or a [`Weaver`] may be sent to
@@ -94,7 +94,7 @@ pub use films::{
 pub use filters::{Quality, Rows, fill_plane, sample, slant};
 pub use pictures::{Frame, Output, Source, picture};
 pub use planes::{Layout, Lines, Plane, code, value};
-pub use readbacks::{Padded, ReadPlanes, Readback, readback};
+pub use readbacks::{Padded, ReadPlanes, Readback, readback, readback_copy, readback_sizes};
 pub use refusal::Refusal;
 pub use weaves::{
     Field, Format, WEAVER_BYTES, Weaver, WovenPicture, weave, woven_format, woven_line,

@@ -1,7 +1,6 @@
 //! Frames read back from elsewhere: crates/weavedesk/src/lib.rt.
 
 use crate::calls::ReadbackNumbers;
-use crate::planes::{sample_bytes, samples};
 use crate::{Refusal, calls};
 
 /// A frame that was read back, with padding, and with codes deeper than 8 bits in the high bits of
@@ -41,54 +40,71 @@ pub struct Padded<'a> {
 }
 
 /// The planes luma, cb and cr without padding and without shift, which every other call takes as
-/// planar. Refused with 4 and with 6. The call gives 1 and 2 for other numbers of planes, of which
-/// [`ReadPlanes`] has none.
+/// planar. It asks for their sizes, makes the three buffers and copies. Refused with 4 and with 6; never
+/// with 7, since it is proved that buffers of the sizes that were said are long enough.
 pub fn readback(frame: Readback<'_>) -> Result<[Vec<u8>; 3], Refusal> {
-    let nothing = Padded {
-        bytes: &[],
-        stride: 0,
-    };
-    let (planes, luma, second, third) = match frame.planes {
-        ReadPlanes::Biplanar { luma, chroma } => (2, luma, chroma, nothing),
-        ReadPlanes::Planar { luma, cb, cr } => (3, luma, cb, cr),
-    };
-    let Readback {
-        width,
-        height,
-        depth,
-        ..
-    } = frame;
-    let about = ReadbackNumbers {
-        planes,
-        width,
-        height,
-        depth,
-        luma_pitch: luma.stride,
-        second_pitch: second.stride,
-        third_pitch: third.stride,
-    };
-    let room = |lent: Padded<'_>, width, height| {
-        let samples = samples(lent.bytes, width, height);
-        vec![0; samples * sample_bytes(depth) as usize]
-    };
-    let chroma = room(second, width.div_ceil(2), height.div_ceil(2));
-    let mut read = [room(luma, width, height), chroma.clone(), chroma];
-    let [out_luma, out_cb, out_cr] = &mut read;
-    Refusal::check(calls::readback(
+    let mut planes = readback_sizes(frame)?.map(|size| vec![0; size]);
+    readback_copy(frame, planes.each_mut().map(Vec::as_mut_slice))?;
+    Ok(planes)
+}
+
+/// How many bytes luma, cb and cr take without padding: for a host that makes its buffers once for a
+/// tape, and copies each frame into them by [`readback_copy`]. Refused with 4 and with 6. The call gives
+/// 1 and 2 for other numbers of planes, of which [`ReadPlanes`] has none.
+pub fn readback_sizes(frame: Readback<'_>) -> Result<[usize; 3], Refusal> {
+    let (about, [luma, second, third]) = frame.lent();
+    let (mut luma_bytes, mut cb_bytes, mut cr_bytes) = (0, 0, 0);
+    Refusal::check(calls::readback_sizes(
         about,
-        luma.bytes,
-        second.bytes,
-        third.bytes,
-        out_luma,
-        out_cb,
-        out_cr,
+        luma,
+        second,
+        third,
+        &mut luma_bytes,
+        &mut cb_bytes,
+        &mut cr_bytes,
     ))?;
-    Ok(read)
+    Ok([luma_bytes, cb_bytes, cr_bytes].map(|size| size as usize))
+}
+
+/// The planes luma, cb and cr, each to the start of a buffer; what a buffer has beyond its plane stays.
+/// Refused with 4, with 6, and with 7 where one is shorter than [`readback_sizes`] says of this frame,
+/// whatever it said of another.
+pub fn readback_copy(frame: Readback<'_>, buffers: [&mut [u8]; 3]) -> Result<(), Refusal> {
+    let (about, [luma, second, third]) = frame.lent();
+    let [out_luma, out_cb, out_cr] = buffers;
+    Refusal::check(calls::readback_copy(
+        about, luma, second, third, out_luma, out_cb, out_cr,
+    ))
+}
+
+impl<'a> Readback<'a> {
+    /// As both calls take it. The third of two planes is not looked at.
+    fn lent(self) -> (ReadbackNumbers, [&'a [u8]; 3]) {
+        let nothing = Padded {
+            bytes: &[],
+            stride: 0,
+        };
+        let (planes, luma, second, third) = match self.planes {
+            ReadPlanes::Biplanar { luma, chroma } => (2, luma, chroma, nothing),
+            ReadPlanes::Planar { luma, cb, cr } => (3, luma, cb, cr),
+        };
+        let about = ReadbackNumbers {
+            planes,
+            width: self.width,
+            height: self.height,
+            depth: self.depth,
+            luma_pitch: luma.stride,
+            second_pitch: second.stride,
+            third_pitch: third.stride,
+        };
+        (about, [luma.bytes, second.bytes, third.bytes])
+    }
 }
 
 #[cfg(test)]
 mod tests {
-    use super::{Padded, ReadPlanes, Readback, ReadbackNumbers, calls, readback};
+    use super::{Padded, ReadPlanes, Readback, ReadbackNumbers, calls};
+    use super::{readback, readback_copy, readback_sizes};
     use crate::Refusal;
 
     const LUMA: Padded<'static> = Padded {
@@ -188,7 +204,7 @@ mod tests {
         ];
         for (about, shared, room, number) in cases {
             let (mut y, mut cb, mut cr) = ([5; 2], [5; 2], [5; 2]);
-            let given = calls::readback(
+            let given = calls::readback_copy(
                 about,
                 LUMA.bytes,
                 shared,
@@ -198,6 +214,47 @@ mod tests {
                 &mut cr[..room],
             );
             assert_eq!((given, [y, cb, cr]), (number, [[5; 2]; 3]));
+
+            let [mut luma_bytes, mut cb_bytes, mut cr_bytes] = [9; 3];
+            let given = calls::readback_sizes(
+                about,
+                LUMA.bytes,
+                shared,
+                &[],
+                &mut luma_bytes,
+                &mut cb_bytes,
+                &mut cr_bytes,
+            );
+            let (number, said) = if number == 7 { (0, 2) } else { (number, 9) };
+            assert_eq!(
+                (given, [luma_bytes, cb_bytes, cr_bytes]),
+                (number, [said; 3])
+            );
         }
+    }
+
+    #[test]
+    fn buffers_are_made_once_and_judged_each_time() {
+        let (luma, chroma) = ([7; 6], [8; 4]);
+        let of = |width, height| {
+            let plane = |bytes, stride| Padded { bytes, stride };
+            let (luma, chroma) = (plane(&luma, width), plane(&chroma, 2 * width.div_ceil(2)));
+            Readback {
+                width,
+                height,
+                depth: 8,
+                planes: ReadPlanes::Biplanar { luma, chroma },
+            }
+        };
+        assert_eq!(readback_sizes(of(2, 2)), Ok([4, 1, 1]));
+        let (mut y, mut cb, mut cr) = ([0; 4], [0; 1], [0; 2]);
+        let copied = readback_copy(of(2, 2), [&mut y, &mut cb, &mut cr]);
+        assert_eq!((copied, y, cb, cr), (Ok(()), [7; 4], [8], [8, 0]));
+
+        // A frame of another size is held to its own, and what was copied stays.
+        assert_eq!(readback_sizes(of(2, 3)), Ok([6, 2, 2]));
+        let copied = readback_copy(of(2, 3), [&mut y, &mut cb, &mut cr]);
+        assert_eq!(copied.map_err(Refusal::number), Err(7));
+        assert_eq!((y, cb, cr), ([7; 4], [8], [8, 0]));
     }
 }

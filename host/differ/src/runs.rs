@@ -252,12 +252,17 @@ pub const RUNS: &[Run] = &[
     },
     Run {
         name: readback::NAME,
-        calls: &["readback"],
+        calls: &["readback_sizes", "readback_copy"],
         about: "two and three planes of frames up to 40 by 16, every depth, padding; the widest and \
-                the highest; counts, shapes, lengths and room past their bounds",
+                the highest; outputs as long as was said, longer, and each a byte too short; \
+                counts, shapes, lengths and room past their bounds",
         reads: false,
         run: readback::run,
-        answers: |random, _| picked("readback", 50, readback::answers(random)),
+        answers: |random, _| {
+            let mut found = picked("readback_sizes", 50, readback::sizes(random.clone()));
+            found.extend(picked("readback_copy", 50, readback::copies(random)));
+            found
+        },
     },
     Run {
         name: weaver::NAME,

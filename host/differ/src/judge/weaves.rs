@@ -131,23 +131,31 @@ pub fn component(shape: PlaneNumbers) -> u64 {
 
 /// 1 for no plane or more than three, 2 for luma alone. A plane beyond the
 /// count is not there.
-pub fn readback(about: ReadbackNumbers, lengths: [usize; 3], outs: [usize; 3]) -> u8 {
+pub fn readback_sizes(about: ReadbackNumbers, lengths: [usize; 3]) -> u8 {
     let planes = read_from(about);
     let in_bounds = planes.iter().all(|(shape, _)| in_bounds(*shape));
     let short = planes
         .iter()
         .any(|(shape, from)| (lengths[*from] as u64) < needed(*shape));
-    let cramped = planes
-        .iter()
-        .zip(outs)
-        .any(|((shape, _), out)| (out as u64) < component(*shape));
     lowest(&[
         (1, about.planes == 0 || about.planes > 3),
         (2, about.planes == 1),
         (4, !in_bounds),
         (6, short),
-        (7, cramped),
     ])
+}
+
+/// By the same rules; and each output has room for its component.
+pub fn readback_copy(about: ReadbackNumbers, lengths: [usize; 3], outs: [usize; 3]) -> u8 {
+    let planes = read_from(about);
+    let cramped = planes
+        .iter()
+        .zip(outs)
+        .any(|((shape, _), out)| (out as u64) < component(*shape));
+    match readback_sizes(about, lengths) {
+        0 if cramped => 7,
+        number => number,
+    }
 }
 
 /// The field that a weaver keeps.
@@ -205,7 +213,8 @@ pub fn push(kept: Option<Kept>, parity: u8, timed: u8, field: [Lent; 3], room: R
 
 #[cfg(test)]
 mod tests {
-    use super::{Kept, Lent, Room, half, line, push, readback, weave, woven_line};
+    use super::woven_line;
+    use super::{Kept, Lent, Room, half, line, push, readback_copy, readback_sizes, weave};
     use desk::calls::{PlaneNumbers, ReadbackNumbers};
 
     fn lines(width: u32, height: u32, depth: u32, stride: u32) -> PlaneNumbers {
@@ -273,20 +282,22 @@ mod tests {
             second_pitch: 8,
             third_pitch: 0,
         };
-        assert_eq!(readback(about, [18, 16, 0], [18, 8, 8]), 0);
-        assert_eq!(readback(about, [18, 15, 0], [18, 8, 8]), 6);
-        assert_eq!(readback(about, [18, 16, 0], [18, 8, 7]), 7);
+        assert_eq!(readback_sizes(about, [18, 16, 0]), 0);
+        assert_eq!(readback_sizes(about, [18, 15, 0]), 6);
+        assert_eq!(readback_copy(about, [18, 16, 0], [18, 8, 8]), 0);
+        assert_eq!(readback_copy(about, [18, 16, 0], [18, 8, 7]), 7);
+        assert_eq!(readback_copy(about, [18, 15, 0], [18, 8, 7]), 6);
         let of = |planes| ReadbackNumbers { planes, ..about };
-        assert_eq!(readback(of(3), [18, 16, 16], [18, 8, 8]), 4);
-        assert_eq!(readback(of(1), [0; 3], [0; 3]), 2);
-        assert_eq!(readback(of(0), [0; 3], [0; 3]), 1);
-        assert_eq!(readback(of(4), [0; 3], [0; 3]), 1);
+        assert_eq!(readback_sizes(of(3), [18, 16, 16]), 4);
+        assert_eq!(readback_sizes(of(1), [0; 3]), 2);
+        assert_eq!(readback_sizes(of(0), [0; 3]), 1);
+        assert_eq!(readback_sizes(of(4), [0; 3]), 1);
         let three = ReadbackNumbers {
             third_pitch: 5,
             ..of(3)
         };
-        assert_eq!(readback(three, [18, 12, 9], [18, 8, 8]), 0);
-        assert_eq!(readback(three, [18, 12, 8], [18, 8, 8]), 6);
+        assert_eq!(readback_sizes(three, [18, 12, 9]), 0);
+        assert_eq!(readback_sizes(three, [18, 12, 8]), 6);
     }
 
     #[test]

@@ -1,4 +1,5 @@
-//! `desk_readback` against `weave::frame_of_readback`.
+//! `desk_readback_sizes` and `desk_readback_copy`, one after the other, against
+//! the one call of the Rust: the sizes are the lengths of the planes that it makes.
 
 use std::hint::black_box;
 use std::rc::Rc;
@@ -14,7 +15,7 @@ use crate::answers::Answer;
 use crate::case::{Case, Difference, Failure, Least, Tally, same, smaller_numbers};
 use crate::given::{Contents, EDGES_OF_HEIGHT, EDGES_OF_WIDTH, Given, edge_of};
 use crate::judge;
-use crate::lent::{Guarded, PATTERNS};
+use crate::lent::{Guarded, PATTERNS, three_places};
 use crate::random::Random;
 
 pub const NAME: &str = "readback";
@@ -47,9 +48,27 @@ struct Read {
     outs: [usize; 3],
 }
 
+/// Outputs about the sizes: just as long, longer, and for each one that lacks a
+/// byte.
+fn outs_about(sizes: [usize; 3]) -> Vec<[usize; 3]> {
+    let mut all = vec![sizes, sizes.map(|size| size + 33)];
+    for at in 0..3 {
+        let mut short = sizes;
+        short[at] -= 1;
+        all.push(short);
+    }
+    all
+}
+
 impl Read {
-    fn number(&self) -> u8 {
-        judge::weaves::readback(self.about, self.lengths(), self.outs)
+    /// The number of the question.
+    fn asked(&self) -> u8 {
+        judge::weaves::readback_sizes(self.about, self.lengths())
+    }
+
+    /// The number of the copy, to outputs of such lengths.
+    fn copied(&self, outs: [usize; 3]) -> u8 {
+        judge::weaves::readback_copy(self.about, self.lengths(), outs)
     }
 
     fn lengths(&self) -> [usize; 3] {
@@ -76,37 +95,71 @@ impl Read {
     }
 }
 
-impl Case for Read {
-    fn compare(&self) -> Result<u8, Difference> {
-        let number = self.number();
-        let expected = match number {
-            0 => self
-                .by_rust()
-                .expect("the Rust takes planes that suffice")
-                .planes
-                .map(|plane| plane.data),
-            1 | 2 => {
-                // The Rust has these two refusals as well, each in its words.
+impl Read {
+    /// What the Rust makes of planes that are not refused; and it has two of the
+    /// refusals as well, each in its words.
+    fn wanted(&self) -> Result<Option<[Vec<u8>; 3]>, Difference> {
+        match self.asked() {
+            number @ (1 | 2) => {
                 let words = ["プレーンが無い", "色差のプレーンが無い（輝度だけ）"];
                 let refused = self.by_rust().map(|_| "a frame");
                 let wanted = Err(words[usize::from(number) - 1]);
                 same("the Rust's own refusal", wanted, refused)?;
-                Default::default()
+                Ok(None)
             }
-            _ => Default::default(),
+            number => Ok(self.made(number)),
+        }
+    }
+
+    fn ask(&self, sizes: Option<[usize; 3]>) -> Result<(), Difference> {
+        let [luma, second, third] = self.planes.each_ref().map(|given| given.lent());
+        let wanted = sizes.map(|sizes| sizes.map(|size| size as u64));
+        three_places(
+            |luma_bytes, cb_bytes, cr_bytes| {
+                desk::calls::readback_sizes(
+                    self.about, luma, second, third, luma_bytes, cb_bytes, cr_bytes,
+                )
+            },
+            wanted.ok_or(self.asked()),
+        )?;
+        Ok(())
+    }
+
+    fn copy(&self, outs: [usize; 3], planes: &Option<[Vec<u8>; 3]>) -> Result<u8, Difference> {
+        let number = self.copied(outs);
+        let nothing = Default::default();
+        let expected = match planes {
+            Some(planes) if number == 0 => planes,
+            _ => &nothing,
         };
         for pattern in PATTERNS {
-            let mut lent = self.outs.map(|length| Guarded::filled(pattern, length));
+            let mut lent = outs.map(|length| Guarded::filled(pattern, length));
             let [luma, second, third] = self.planes.each_ref().map(|given| given.lent());
             let [out_luma, out_cb, out_cr] = lent.each_mut().map(Guarded::lend);
-            let given =
-                desk::calls::readback(self.about, luma, second, third, out_luma, out_cb, out_cr);
+            let given = desk::calls::readback_copy(
+                self.about, luma, second, third, out_luma, out_cb, out_cr,
+            );
             same("the number, which is the rules'", given, number)?;
             // The compiler must not suppose that the call kept to what it was lent.
-            for (lent, expected) in black_box(&lent).iter().zip(&expected) {
+            for (lent, expected) in black_box(&lent).iter().zip(expected) {
                 lent.written(expected)?;
             }
         }
+        Ok(number)
+    }
+}
+
+impl Case for Read {
+    fn compare(&self) -> Result<u8, Difference> {
+        let planes = self.wanted()?;
+        let sizes = planes
+            .as_ref()
+            .map(|planes| planes.each_ref().map(Vec::len));
+        self.ask(sizes)?;
+        for outs in sizes.map(outs_about).unwrap_or_default() {
+            self.copy(outs, &planes)?;
+        }
+        let number = self.copy(self.outs, &planes)?;
         for given in black_box(&self.planes) {
             let kept = given.lent() == given.plane().data;
             same("whether a lent plane is as it was", kept, true)?;
@@ -346,24 +399,29 @@ pub fn run(random: &mut Random) -> Result<Tally, Failure> {
     Tally::of(NAME, least, large.chain(others).chain(refused))
 }
 
-/// Answers of small frames, without an end; one in three has something wrong.
-pub(crate) fn answers(mut random: Random) -> impl Iterator<Item = Answer> {
+/// Small frames, without an end; one in three has something wrong.
+fn small(mut random: Random) -> impl Iterator<Item = Read> {
     std::iter::repeat_with(move || {
-        let read = if random.one_in(3) {
-            spoilt(&mut random)
-        } else {
-            let planes = random.between(2, 3) as u32;
-            let (width, height, depth) = fields::size(&mut random, 14, 9);
-            Draft::of(&mut random, planes, width, height, depth).read(&mut random)
-        };
-        let number = read.number();
-        let written = match number {
-            0 => {
-                let frame = read.by_rust().expect("the Rust takes planes that suffice");
-                frame.planes.map(|plane| plane.data)
-            }
-            _ => Default::default(),
-        };
+        if random.one_in(3) {
+            return spoilt(&mut random);
+        }
+        let planes = random.between(2, 3) as u32;
+        let (width, height, depth) = fields::size(&mut random, 14, 9);
+        Draft::of(&mut random, planes, width, height, depth).read(&mut random)
+    })
+}
+
+impl Read {
+    /// The planes that the Rust makes, where the call gets 0.
+    fn made(&self, number: u8) -> Option<[Vec<u8>; 3]> {
+        (number == 0).then(|| {
+            let frame = self.by_rust().expect("the Rust takes planes that suffice");
+            frame.planes.map(|plane| plane.data)
+        })
+    }
+
+    /// The numbers that both calls are given, then the number that this one gives.
+    fn answer(&self, call: &'static str, number: u8) -> Answer {
         let ReadbackNumbers {
             planes,
             width,
@@ -372,17 +430,36 @@ pub(crate) fn answers(mut random: Random) -> impl Iterator<Item = Answer> {
             luma_pitch,
             second_pitch,
             third_pitch,
-        } = read.about;
-        let mut answer = Answer::of("readback")
+        } = self.about;
+        Answer::of(call)
             .numbers([planes, width, height, depth])
             .numbers([luma_pitch, second_pitch, third_pitch])
-            .gives(number);
-        for given in &read.planes {
-            answer = answer.slice(&given.plane().data);
+            .gives(number)
+    }
+
+    fn with_planes(&self, answer: Answer) -> Answer {
+        let planes = self.planes.iter();
+        planes.fold(answer, |answer, given| answer.slice(&given.plane().data))
+    }
+}
+
+pub(crate) fn sizes(random: Random) -> impl Iterator<Item = Answer> {
+    small(random).map(|read| {
+        let made = read.made(read.asked());
+        let mut answer = read.answer("readback_sizes", read.asked());
+        for at in 0..3 {
+            answer = answer.count(made.as_ref().map(|planes| planes[at].len() as u64));
         }
-        for (written, lent) in written.iter().zip(read.outs) {
-            answer = answer.output(written, lent);
-        }
-        answer
+        read.with_planes(answer)
+    })
+}
+
+pub(crate) fn copies(random: Random) -> impl Iterator<Item = Answer> {
+    small(random).map(|read| {
+        let number = read.copied(read.outs);
+        let made = read.made(number).unwrap_or_default();
+        let answer = read.with_planes(read.answer("readback_copy", number));
+        let outs = made.iter().zip(read.outs);
+        outs.fold(answer, |answer, (made, lent)| answer.output(made, lent))
     })
 }
