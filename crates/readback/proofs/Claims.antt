@@ -64,18 +64,18 @@ four-tests true true true true e = omega arith
 
 -- an output is shorter exactly where there is no room
 module _ (said : Sizes) (luma-room cb-room cr-room : ℕ) where
-  shorter : outputsHold said luma-room cb-room cr-room ≡ false → Shorter said luma-room cb-room cr-room
+  shorter : outputsHold said luma-room cb-room cr-room ≡ false → Shorter said (record { luma = luma-room; cb = cb-room; cr = cr-room })
   shorter e = by (known (leb (said .luma) luma-room)) (known (leb (said .cb) cb-room)) (known (leb (said .cr) cr-room))
     where
       by :
           (leb (said .luma) luma-room ≡ true) ⊎ (leb (said .luma) luma-room ≡ false) → (leb (said .cb) cb-room ≡ true) ⊎ (leb (said .cb) cb-room ≡ false)
-          → (leb (said .cr) cr-room ≡ true) ⊎ (leb (said .cr) cr-room ≡ false) → Shorter said luma-room cb-room cr-room
+          → (leb (said .cr) cr-room ≡ true) ⊎ (leb (said .cr) cr-room ≡ false) → Shorter said (record { luma = luma-room; cb = cb-room; cr = cr-room })
       by (inr p) cb cr = inl (leb-false _ _ p)
       by (inl p) (inr q) cr = inr (inl (leb-false _ _ q))
       by (inl p) (inl q) (inr s) = inr (inr (leb-false _ _ s))
       by (inl p) (inl q) (inl s) = clash (rw (p, q, s) refl) e
 
-  no-room : Shorter said luma-room cb-room cr-room → outputsHold said luma-room cb-room cr-room ≡ false
+  no-room : Shorter said (record { luma = luma-room; cb = cb-room; cr = cr-room }) → outputsHold said luma-room cb-room cr-room ≡ false
   no-room (inl h) = simp (lt-leb (said .luma) luma-room h)
   no-room (inr (inl h)) = second-fails (leb (said .luma) luma-room) _ (leb (said .cr) cr-room) (lt-leb (said .cb) cb-room h)
   no-room (inr (inr h)) = and-fails (leb (said .luma) luma-room && leb (said .cb) cb-room) _ (lt-leb (said .cr) cr-room h)

@@ -30,14 +30,14 @@ OneAsked = (a b : Asked) → askedNo a ≡ askedNo b → askedValues a ≡ asked
 -- ---- the two calls
 
 -- an output is shorter than was said
-abbrev pub Shorter : Sizes → ℕ → ℕ → ℕ → Type 0
-Shorter said luma-room cb-room cr-room = (luma-room < said .luma) ⊎ ((cb-room < said .cb) ⊎ (cr-room < said .cr))
+abbrev pub Shorter : Sizes → Sizes → Type 0
+Shorter said rooms = (rooms .luma < said .luma) ⊎ ((rooms .cb < said .cb) ⊎ (rooms .cr < said .cr))
 
 -- The copy's number is the question's, except where that is 0 and an output is shorter than was said: then, and only then, it is 7.
 pub record Follows (r : Readback) (luma second third luma-room cb-room cr-room : ℕ) : Type 0 where
   pub seven :
       (readbackNo r luma second third luma-room cb-room cr-room ≡ 7)
-      ↔ ((sizesNo r luma second third ≡ 0) × Shorter (sizesOf r) luma-room cb-room cr-room)
+      ↔ ((sizesNo r luma second third ≡ 0) × Shorter (sizesOf r) (record { luma = luma-room; cb = cb-room; cr = cr-room }))
   pub alike :
       (readbackNo r luma second third luma-room cb-room cr-room ≡ 7 → ⊥)
       → readbackNo r luma second third luma-room cb-room cr-room ≡ sizesNo r luma second third

@@ -9,7 +9,8 @@ use contract.Lifetimes.{Lfts}
 use denote.Ref.{now}
 use borrow.Fn.Kinds.{Dens}
 use Rattle.laws.specs.Contracts.{Comes}
-use Rattle.weavedesk.specs.Readback.{Frame, Three, lengths, askNo, placesAfter, copyNo, outputsAfter}
+use Rattle.readback.specs.declared.Sizes.{Sizes}
+use Rattle.weavedesk.specs.Readback.{Frame, Outputs, askNo, placesAfter, copyNo, outputsAfter}
 use Rattle.weavedesk.specs.Push.{Lent, Offer, emptied, stateAfter, storeAfter, lumaAfter, cbAfter, crAfter, pictureAfter, timedAfter, timeAfter}
 use Rattle.weavedesk.specs.History.{new, clear, numberOf, next, Pushed}
 use Rattle.weavedesk.proofs.desk_readback_sizes.Kinds as sizes-kinds
@@ -25,25 +26,28 @@ use Rattle.weavedesk.proofs.desk_weaver_push.Reads as push-reads
 
 -- ---- a frame read back
 
-abbrev threeOf : {A : Type 0} → A → A → A → Three A
-threeOf luma cb cr = record { luma = luma; cb = cb; cr = cr }
+abbrev sizes : ℕ → ℕ → ℕ → Sizes
+sizes luma cb cr = record { luma = luma; cb = cb; cr = cr }
+
+abbrev outputs : List ℕ → List ℕ → List ℕ → Outputs
+outputs luma cb cr = record { luma = luma; cb = cb; cr = cr }
 
 -- the numbers and the three planes come first, and behind them the places or the outputs for luma, cb and cr
 pub sizes-comes :
     Comes 6 sizes-kinds.ps sizes-kinds.r sizes-reads.Post
     (λ κs a x s.
     let f : Frame = record { about = a .0; luma = now (a .1 .0); second = now (a .1 .1 .0); third = now (a .1 .1 .1 .0) } in
-    let places = threeOf (now (a .1 .1 .1 .1 .0)) (now (a .1 .1 .1 .1 .1 .0)) (now (a .1 .1 .1 .1 .1 .1 .0)) in
-    (x ≡ askNo f) × (threeOf (now (s .1 .1 .1 .1 .0)) (now (s .1 .1 .1 .1 .1 .0)) (now (s .1 .1 .1 .1 .1 .1 .0)) ≡ placesAfter x f places))
-sizes-comes κs a x s met = (met .0, λ i. threeOf (met .1 .0 i) (met .1 .1 .0 i) (met .1 .1 .1 i))
+    let places = sizes (now (a .1 .1 .1 .1 .0)) (now (a .1 .1 .1 .1 .1 .0)) (now (a .1 .1 .1 .1 .1 .1 .0)) in
+    (x ≡ askNo f) × (sizes (now (s .1 .1 .1 .1 .0)) (now (s .1 .1 .1 .1 .1 .0)) (now (s .1 .1 .1 .1 .1 .1 .0)) ≡ placesAfter x f places))
+sizes-comes κs a x s met = (met .0, λ i. sizes (met .1 .0 i) (met .1 .1 .0 i) (met .1 .1 .1 i))
 
 pub copy-comes :
     Comes 6 copy-kinds.ps copy-kinds.r copy-reads.Post
     (λ κs a x s.
     let f : Frame = record { about = a .0; luma = now (a .1 .0); second = now (a .1 .1 .0); third = now (a .1 .1 .1 .0) } in
-    let outs = threeOf (now (a .1 .1 .1 .1 .0)) (now (a .1 .1 .1 .1 .1 .0)) (now (a .1 .1 .1 .1 .1 .1 .0)) in
-    (x ≡ copyNo f (lengths outs)) × (threeOf (now (s .1 .1 .1 .1 .0)) (now (s .1 .1 .1 .1 .1 .0)) (now (s .1 .1 .1 .1 .1 .1 .0)) ≡ outputsAfter x f outs))
-copy-comes κs a x s met = (met .0, λ i. threeOf (met .1 .0 i) (met .1 .1 .0 i) (met .1 .1 .1 i))
+    let outs = outputs (now (a .1 .1 .1 .1 .0)) (now (a .1 .1 .1 .1 .1 .0)) (now (a .1 .1 .1 .1 .1 .1 .0)) in
+    (x ≡ copyNo f outs) × (outputs (now (s .1 .1 .1 .1 .0)) (now (s .1 .1 .1 .1 .1 .0)) (now (s .1 .1 .1 .1 .1 .1 .0)) ≡ outputsAfter x f outs))
+copy-comes κs a x s met = (met .0, λ i. outputs (met .1 .0 i) (met .1 .1 .0 i) (met .1 .1 .1 i))
 
 -- ---- a weaver
 

@@ -6,33 +6,32 @@ use lib.ListN.{length}
 use Rattle.laws.specs.Rows.{over}
 use Rattle.laws.proofs.Refusal.{stays}
 use Rattle.readback.specs.declared.Readback.{Readback}
+use Rattle.readback.specs.declared.Sizes.{Sizes}
+use Rattle.readback.specs.Claims.{Shorter}
 use Rattle.readback.specs.Readback.{lumaShape, cbShape, crShape, crBytes, sizesOf, copiedOf}
 use Rattle.readback.proofs.Claims as readback
 use Rattle.weavedesk.specs.Woven.{readbackNamed}
-use Rattle.weavedesk.specs.Readback.{Frame, Three, lengths, askNo, placesAfter, copyNo, outputsAfter, planesOf}
-use Rattle.weavedesk.specs.Claims.{Shorter, InTurn, AskThenCopy}
+use Rattle.weavedesk.specs.Readback.{Frame, Outputs, lengths, askNo, placesAfter, copyNo, outputsAfter, planesOf}
+use Rattle.weavedesk.specs.Claims.{InTurn, AskThenCopy}
 
-module _ (f : Frame) (places : Three ℕ) (outs : Three (List ℕ)) where
+module _ (f : Frame) (places : Sizes) (outs : Outputs) where
   abbrev meant : Readback
   meant = readbackNamed (f .about)
 
-  abbrev said : Three ℕ
-  said = record { luma = sizesOf meant .luma; cb = sizesOf meant .cb; cr = sizesOf meant .cr }
-
   -- the places after a question that gets 0
-  told : askNo f ≡ 0 → placesAfter (askNo f) f places ≡ said
+  told : askNo f ≡ 0 → placesAfter (askNo f) f places ≡ sizesOf meant
   told done = ap (λ (n : ℕ). placesAfter n f places) done
 
-  full : askNo f ≡ 0 → lengths outs ≡ said → (copyNo f (lengths outs) ≡ 0) × (outputsAfter (copyNo f (lengths outs)) f outs ≡ planesOf f)
+  full : askNo f ≡ 0 → lengths outs ≡ sizesOf meant → (copyNo f outs ≡ 0) × (outputsAfter (copyNo f outs) f outs ≡ planesOf f)
   full done just =
       let fills =
       readback.just-fills meant (f .luma) (f .second) (f .third) (outs .luma) (outs .cb) (outs .cr) done
-      (λ i. record { luma = sym just i .luma; cb = sym just i .cb; cr = sym just i .cr }) in (
+      (sym just) in (
         fills .done,
         ap (λ (n : ℕ). outputsAfter n f outs) (fills .done) ∙ (λ i. record { luma = fills .luma-filled i; cb = fills .cb-filled i; cr = fills .cr-filled i }),
       )
 
-  kept : (copyNo f (lengths outs) ≡ 0 → ⊥) → outputsAfter (copyNo f (lengths outs)) f outs ≡ outs
+  kept : (copyNo f outs ≡ 0 → ⊥) → outputsAfter (copyNo f outs) f outs ≡ outs
   kept refused =
       let luma = stays (over (copiedOf (f .luma) (lumaShape meant)) (outs .luma)) (outs .luma) refused in
       let cb = stays (over (copiedOf (f .second) (cbShape meant)) (outs .cb)) (outs .cb) refused in
@@ -51,8 +50,8 @@ module _ (f : Frame) (places : Three ℕ) (outs : Three (List ℕ)) where
       let follows = readback.copy-follows meant (length (f .luma)) (length (f .second)) (length (f .third)) (length (outs .luma)) (length (outs .cb)) (length (outs .cr)) in
       record {
         seven = (
-          λ e. let h = follows .seven .0 e in (h .0, subst (Shorter (lengths outs)) (sym (told (h .0))) (h .1)),
-          λ h. follows .seven .1 (h .0, subst (Shorter (lengths outs)) (told (h .0)) (h .1)),
+          λ e. let h = follows .seven .0 e in (h .0, subst (λ (told : Sizes). Shorter told (lengths outs)) (sym (told (h .0))) (h .1)),
+          λ h. follows .seven .1 (h .0, subst (λ (told : Sizes). Shorter told (lengths outs)) (told (h .0)) (h .1)),
         );
         alike = follows .alike;
         packed = told;

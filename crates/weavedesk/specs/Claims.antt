@@ -1,7 +1,7 @@
 -- What the exported functions' contracts come to. proofs/Claims.antt proves each claim under its name in small letters.
-use Prim.Native.Nat.{ℕ, _*_, _≤_, _<_, _^_}
+use Prim.Native.Nat.{ℕ, _≤_, _<_, _^_}
 use mathlib.Core.Path.{_≡_}
-use mathlib.Core.Logic.{_⊎_, _↔_}
+use mathlib.Core.Logic.{_↔_}
 use mathlib.Core.List.{List, _∷_}
 use lib.IntN.{ℤ, pos}
 use lib.ListN.{length}
@@ -13,12 +13,13 @@ use Rattle.weave.specs.Weave.{givenOf, weaveTests, lineTests}
 use Rattle.weaver.specs.declared.Weaver.{Weaver}
 use Rattle.weaver.specs.Weaver.{wovenBy}
 use Rattle.weaver.specs.History.{Sent, Waiting, none, waits, mateOf, waitingAfter, refusalTests, taken}
-use Rattle.plane.specs.Plane.{sampleBytes, half}
+use Rattle.readback.specs.declared.Sizes.{Sizes}
 use Rattle.readback.specs.Readback.{sizesTests, readbackTests}
+use Rattle.readback.specs.Claims.{Shorter, packedSizes}
 use Rattle.weavedesk.specs.declared.FieldNumbers.{FieldNumbers}
 use Rattle.weavedesk.specs.declared.ReadbackNumbers.{ReadbackNumbers}
 use Rattle.weavedesk.specs.Woven.{fieldNamed, readbackNamed, lineOutTests}
-use Rattle.weavedesk.specs.Readback.{Frame, Three, lengths, askNo, placesAfter, copyNo, outputsAfter, planesOf}
+use Rattle.weavedesk.specs.Readback.{Frame, Outputs, lengths, askNo, placesAfter, copyNo, outputsAfter, planesOf}
 use Rattle.weavedesk.specs.Waiting.{wholeSize, timeSize, weaverIn, keeping}
 use Rattle.weavedesk.specs.Push.{Lent, Offer, newTests, newNo, clearTests, clearNo, pushTests, pushNo}
 use Rattle.weavedesk.specs.Push.{weaverAfter, lumaAfter, cbAfter, crAfter, pictureAfter, timedAfter, timeAfter}
@@ -60,35 +61,23 @@ PushSays = (l : Lent) (o : Offer) → Says (pushTests l o)
 
 -- ---- a frame read back: the host asks, and copies the same frame
 
--- a length is below the number that stands in its place
-abbrev pub Shorter : Three ℕ → Three ℕ → Type 0
-Shorter rooms places = (rooms .luma < places .luma) ⊎ ((rooms .cb < places .cb) ⊎ (rooms .cr < places .cr))
-
--- the planes packed: height times width times bytes a sample, chroma of half the height and half the width
-abbrev pub packedSizes : ℕ → ℕ → ℕ → Three ℕ
-packedSizes width height depth = record {
-  luma = height * (width * sampleBytes depth);
-  cb = half height * (half width * sampleBytes depth);
-  cr = half height * (half width * sampleBytes depth);
-}
-
-pub record InTurn (f : Frame) (places : Three ℕ) (outs : Three (List ℕ)) : Type 0 where
+pub record InTurn (f : Frame) (places : Sizes) (outs : Outputs) : Type 0 where
   -- The copy gets the question's number, except where that is 0 and an output is shorter than the places say: then, and only then, it gets 7.
-  pub seven : (copyNo f (lengths outs) ≡ 7) ↔ ((askNo f ≡ 0) × Shorter (lengths outs) (placesAfter (askNo f) f places))
-  pub alike : (copyNo f (lengths outs) ≡ 7 → ⊥) → copyNo f (lengths outs) ≡ askNo f
+  pub seven : (copyNo f outs ≡ 7) ↔ ((askNo f ≡ 0) × Shorter (placesAfter (askNo f) f places) (lengths outs))
+  pub alike : (copyNo f outs ≡ 7 → ⊥) → copyNo f outs ≡ askNo f
   -- What the places say are the sizes of the packed planes, by the numbers that the host gave.
   pub packed : askNo f ≡ 0 → placesAfter (askNo f) f places ≡ packedSizes (f .about .width) (f .about .height) (f .about .depth)
   -- Outputs of just these lengths get the frame's planes, and keep no byte of what they held.
   pub filled :
       askNo f ≡ 0 → lengths outs ≡ placesAfter (askNo f) f places
-      → (copyNo f (lengths outs) ≡ 0) × (outputsAfter (copyNo f (lengths outs)) f outs ≡ planesOf f)
+      → (copyNo f outs ≡ 0) × (outputsAfter (copyNo f outs) f outs ≡ planesOf f)
   -- A refused call leaves what it was lent.
   pub places-stay : (askNo f ≡ 0 → ⊥) → placesAfter (askNo f) f places ≡ places
-  pub outputs-stay : (copyNo f (lengths outs) ≡ 0 → ⊥) → outputsAfter (copyNo f (lengths outs)) f outs ≡ outs
+  pub outputs-stay : (copyNo f outs ≡ 0 → ⊥) → outputsAfter (copyNo f outs) f outs ≡ outs
 
 -- Whatever the places and the outputs held.
 abbrev pub AskThenCopy : Type 0
-AskThenCopy = (f : Frame) (places : Three ℕ) (outs : Three (List ℕ)) → InTurn f places outs
+AskThenCopy = (f : Frame) (places : Sizes) (outs : Outputs) → InTurn f places outs
 
 -- ---- states
 

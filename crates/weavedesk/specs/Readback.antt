@@ -4,7 +4,6 @@ use Prim.Native.Nat.{ℕ}
 use mathlib.Core.List.{List}
 use lib.ListN.{length}
 use Rattle.laws.specs.Refusal.{written}
-use Rattle.readback.specs.declared.Readback.{Readback}
 use Rattle.readback.specs.declared.Sizes.{Sizes}
 use Rattle.readback.specs.Readback.{lumaShape, cbShape, crShape, crBytes, sizesOf, sizesNo, readbackNo, copiedOf, copiedAfter}
 use Rattle.weavedesk.specs.declared.ReadbackNumbers.{ReadbackNumbers}
@@ -17,13 +16,13 @@ pub record Frame : Type 0 where
   pub second : List ℕ
   pub third : List ℕ
 
--- what it lends: three places for the sizes, or three outputs
-pub record Three (A : Type 0) : Type 0 where
-  pub luma : A
-  pub cb : A
-  pub cr : A
+-- what it lends to the copy; to the question it lends three places for sizes
+pub record Outputs : Type 0 where
+  pub luma : List ℕ
+  pub cb : List ℕ
+  pub cr : List ℕ
 
-abbrev pub lengths : Three (List ℕ) → Three ℕ
+abbrev pub lengths : Outputs → Sizes
 lengths outs = record { luma = length (outs .luma); cb = length (outs .cb); cr = length (outs .cr) }
 
 -- ---- the question
@@ -32,7 +31,7 @@ abbrev pub askNo : Frame → ℕ
 askNo f = sizesNo (readbackNamed (f .about)) (length (f .luma)) (length (f .second)) (length (f .third))
 
 -- the places after a question that gets this number
-abbrev pub placesAfter : ℕ → Frame → Three ℕ → Three ℕ
+abbrev pub placesAfter : ℕ → Frame → Sizes → Sizes
 placesAfter number f places =
     let sizes = sizesOf (readbackNamed (f .about)) in record {
       luma = written number (sizes .luma) (places .luma);
@@ -42,12 +41,13 @@ placesAfter number f places =
 
 -- ---- the copy
 
-abbrev pub copyNo : Frame → Three ℕ → ℕ
-copyNo f rooms =
-    readbackNo (readbackNamed (f .about)) (length (f .luma)) (length (f .second)) (length (f .third)) (rooms .luma) (rooms .cb) (rooms .cr)
+abbrev pub copyNo : Frame → Outputs → ℕ
+copyNo f outs =
+    readbackNo (readbackNamed (f .about)) (length (f .luma)) (length (f .second)) (length (f .third)) (length (outs .luma)) (length (outs .cb))
+    (length (outs .cr))
 
 -- the outputs after a copy that gets this number
-abbrev pub outputsAfter : ℕ → Frame → Three (List ℕ) → Three (List ℕ)
+abbrev pub outputsAfter : ℕ → Frame → Outputs → Outputs
 outputsAfter number f outs =
     let r = readbackNamed (f .about) in record {
       luma = copiedAfter number (f .luma) (lumaShape r) (outs .luma);
@@ -56,7 +56,7 @@ outputsAfter number f outs =
     }
 
 -- the three planes that the frame holds, and nothing else
-abbrev pub planesOf : Frame → Three (List ℕ)
+abbrev pub planesOf : Frame → Outputs
 planesOf f =
     let r = readbackNamed (f .about) in record {
       luma = copiedOf (f .luma) (lumaShape r);
