@@ -1,12 +1,12 @@
 -- The claims of specs/Claims.antt.
-use Prim.Native.Nat.{ℕ, _+_, _*_, _/_, _%_, _<_, min}
+use Prim.Native.Nat.{ℕ, _+_, _*_, _/_, _%_, _≤_, _<_, min}
 use mathlib.Core.Path.{_≡_, refl, sym, ap, ap₂, _∙_}
 use mathlib.Core.Logic.{_⊎_, inl, inr, ⊎-elim}
 use mathlib.Core.Bool.{Bool, true, false, cond, _&&_}
 use mathlib.Core.List.{List, [], _∷_}
 use native.Mathlib.Nat.{le-refl, div-one}
 use native.Mathlib.Omega.{arith}
-use lib.Dec.{leb, eqb, lit<}
+use lib.Dec.{leb, eqb, lit<, lit≤}
 use borrow.Author.Tests.{leb-false, eqb-true, eqb-false, le-leb, lt-leb}
 use lib.ListN.{length, drop, getD, List·getD-append}
 use Rattle.laws.specs.Refusal.{lowest, rising}
@@ -19,10 +19,10 @@ use Rattle.plane.specs.declared.Shape.{Shape}
 use Rattle.plane.specs.Plane.{sampleBytes, fullCode, wordOf, codeOf}
 use Rattle.readback.specs.declared.Readback.{Readback}
 use Rattle.readback.specs.declared.Sizes.{Sizes}
-use Rattle.readback.specs.declared.Asked.the-variants.{Value, Refused}
+use Rattle.readback.specs.declared.Needed.the-variants.{Value, Refused}
 use Rattle.readback.specs.Readback.{lumaShape, cbShape, crShape, crBytes, packedBytes, sizesOf, sizesTests, sizesNo, outputsHold, readbackTests, readbackNo}
 use Rattle.readback.specs.Readback.{wordBytes, copiedRow, copiedOf, copiedAfter}
-use Rattle.readback.specs.Claims.{SizesSays, ReadbackSays, OneAsked, Shorter, Follows, CopyFollows, JustFills, SizesPacked, CopiedSize, WordsKept, CodesKept}
+use Rattle.readback.specs.Claims.{SizesSays, ReadbackSays, OneNeeded, Shorter, Follows, CopyFollows, JustFills, SizesPacked, CopiedSize, WordsKept, CodesKept}
 use Rattle.readback.proofs.Rows.{length-word, length-copied}
 use Rattle.readback.proofs.Passed.{seven-behind, refusal-stands}
 
@@ -34,11 +34,11 @@ pub readback-says : ReadbackSays
 unfolding rising
 readback-says r luma second third luma-room cb-room cr-room = lowest-says (readbackTests r luma second third luma-room cb-room cr-room) tt
 
-pub one-asked : OneAsked
-one-asked (Value sizes) (Value other) numbers values = cc
-one-asked (Value sizes) (Refused n) numbers values = cc
-one-asked (Refused n) (Value sizes) numbers values = cc
-one-asked (Refused n) (Refused m) numbers values = cc
+pub one-needed : OneNeeded
+one-needed (Value sizes) (Value other) numbers values = cc
+one-needed (Value sizes) (Refused n) numbers values = cc
+one-needed (Refused n) (Value sizes) numbers values = cc
+one-needed (Refused n) (Refused m) numbers values = cc
 
 pub copied-size : CopiedSize
 unfolding copiedOf
@@ -53,32 +53,34 @@ second-fails false b c e = refl
 apart : (n : ℕ) → n ≡ 0 → n ≡ 7 → ⊥
 apart n zero seven = omega arith
 
--- the question has no test of 7
-four-tests : (a b c d : Bool) → lowest ((1, a) ∷ (2, b) ∷ (4, c) ∷ (6, d) ∷ []) ≡ 7 → ⊥
+up-to-six : (a b c d : Bool) → lowest ((1, a) ∷ (2, b) ∷ (4, c) ∷ (6, d) ∷ []) ≤ 6
 unfolding lowest
-four-tests false b c d e = omega arith
-four-tests true false c d e = omega arith
-four-tests true true false d e = omega arith
-four-tests true true true false e = omega arith
-four-tests true true true true e = omega arith
+up-to-six false b c d = lit≤ tt
+up-to-six true false c d = lit≤ tt
+up-to-six true true false d = lit≤ tt
+up-to-six true true true false = lit≤ tt
+up-to-six true true true true = lit≤ tt
+
+above-six : (n : ℕ) → n ≤ 6 → n ≡ 7 → ⊥
+above-six n most seven = omega arith
 
 -- an output is shorter exactly where there is no room
-module _ (said : Sizes) (luma-room cb-room cr-room : ℕ) where
-  shorter : outputsHold said luma-room cb-room cr-room ≡ false → Shorter said (record { luma = luma-room; cb = cb-room; cr = cr-room })
-  shorter e = by (known (leb (said .luma) luma-room)) (known (leb (said .cb) cb-room)) (known (leb (said .cr) cr-room))
+module _ (told : Sizes) (luma-room cb-room cr-room : ℕ) where
+  shorter : outputsHold told luma-room cb-room cr-room ≡ false → Shorter told (record { luma = luma-room; cb = cb-room; cr = cr-room })
+  shorter e = by (known (leb (told .luma) luma-room)) (known (leb (told .cb) cb-room)) (known (leb (told .cr) cr-room))
     where
       by :
-          (leb (said .luma) luma-room ≡ true) ⊎ (leb (said .luma) luma-room ≡ false) → (leb (said .cb) cb-room ≡ true) ⊎ (leb (said .cb) cb-room ≡ false)
-          → (leb (said .cr) cr-room ≡ true) ⊎ (leb (said .cr) cr-room ≡ false) → Shorter said (record { luma = luma-room; cb = cb-room; cr = cr-room })
+          (leb (told .luma) luma-room ≡ true) ⊎ (leb (told .luma) luma-room ≡ false) → (leb (told .cb) cb-room ≡ true) ⊎ (leb (told .cb) cb-room ≡ false)
+          → (leb (told .cr) cr-room ≡ true) ⊎ (leb (told .cr) cr-room ≡ false) → Shorter told (record { luma = luma-room; cb = cb-room; cr = cr-room })
       by (inr p) cb cr = inl (leb-false _ _ p)
       by (inl p) (inr q) cr = inr (inl (leb-false _ _ q))
       by (inl p) (inl q) (inr s) = inr (inr (leb-false _ _ s))
       by (inl p) (inl q) (inl s) = clash (rw (p, q, s) refl) e
 
-  no-room : Shorter said (record { luma = luma-room; cb = cb-room; cr = cr-room }) → outputsHold said luma-room cb-room cr-room ≡ false
-  no-room (inl h) = simp (lt-leb (said .luma) luma-room h)
-  no-room (inr (inl h)) = second-fails (leb (said .luma) luma-room) _ (leb (said .cr) cr-room) (lt-leb (said .cb) cb-room h)
-  no-room (inr (inr h)) = and-fails (leb (said .luma) luma-room && leb (said .cb) cb-room) _ (lt-leb (said .cr) cr-room h)
+  no-room : Shorter told (record { luma = luma-room; cb = cb-room; cr = cr-room }) → outputsHold told luma-room cb-room cr-room ≡ false
+  no-room (inl h) = simp (lt-leb (told .luma) luma-room h)
+  no-room (inr (inl h)) = second-fails (leb (told .luma) luma-room) _ (leb (told .cr) cr-room) (lt-leb (told .cb) cb-room h)
+  no-room (inr (inr h)) = and-fails (leb (told .luma) luma-room && leb (told .cb) cb-room) _ (lt-leb (told .cr) cr-room h)
 
 module _ (r : Readback) (luma second third luma-room cb-room cr-room : ℕ) where
   abbrev number : ℕ
@@ -87,21 +89,33 @@ module _ (r : Readback) (luma second third luma-room cb-room cr-room : ℕ) wher
   abbrev room : Bool
   room = outputsHold (sizesOf r) luma-room cb-room cr-room
 
+  six : sizesNo r luma second third ≤ 6
+  six = up-to-six _ _ _ _
+
   taken : sizesNo r luma second third ≡ 0 → (room ≡ true) ⊎ (room ≡ false) → Follows r luma second third luma-room cb-room cr-room
   taken done (inl e) =
       let zero : number ≡ 0 = seven-behind r luma second third luma-room cb-room cr-room done ∙ ap (λ (b : Bool). cond b 0 7) e in
       record {
         seven = (λ h. absurd (apart number zero h), λ h. clash e (no-room (sizesOf r) luma-room cb-room cr-room (h .1)));
         alike = λ _. zero ∙ sym done;
+        up-to-six = six;
       }
   taken done (inr e) =
       let seven : number ≡ 7 = seven-behind r luma second third luma-room cb-room cr-room done ∙ ap (λ (b : Bool). cond b 0 7) e in
-      record { seven = (λ _. (done, shorter (sizesOf r) luma-room cb-room cr-room e), λ _. seven); alike = λ h. absurd (h seven) }
+      record {
+        seven = (λ _. (done, shorter (sizesOf r) luma-room cb-room cr-room e), λ _. seven);
+        alike = λ h. absurd (h seven);
+        up-to-six = six;
+      }
 
   refused : (sizesNo r luma second third ≡ 0 → ⊥) → Follows r luma second third luma-room cb-room cr-room
   refused h =
       let same = refusal-stands r luma second third luma-room cb-room cr-room h in
-      record { seven = (λ e. absurd (four-tests _ _ _ _ (sym same ∙ e)), λ e. absurd (h (e .0))); alike = λ _. same }
+      record {
+        seven = (λ e. absurd (above-six (sizesNo r luma second third) six (sym same ∙ e)), λ e. absurd (h (e .0)));
+        alike = λ _. same;
+        up-to-six = six;
+      }
 
 pub copy-follows : CopyFollows
 copy-follows r luma second third luma-room cb-room cr-room =
@@ -109,18 +123,18 @@ copy-follows r luma second third luma-room cb-room cr-room =
     (λ z. refused r luma second third luma-room cb-room cr-room (eqb-false _ 0 z)) (known (eqb (sizesNo r luma second third) 0))
 
 pub just-fills : JustFills
-just-fills r luma second third out-luma out-cb out-cr done said =
+just-fills r luma second third out-luma out-cb out-cr done just =
     let full : (n : ℕ) → leb n n ≡ true = λ n. le-leb n n (le-refl n) in
     record {
       done =
           seven-behind r (length luma) (length second) (length third) (length out-luma) (length out-cb) (length out-cr) done
-          ∙ ap (λ (sizes : Sizes). cond (outputsHold sizes (length out-luma) (length out-cb) (length out-cr)) 0 7) said
+          ∙ ap (λ (sizes : Sizes). cond (outputsHold sizes (length out-luma) (length out-cb) (length out-cr)) 0 7) (sym just)
           ∙ simp (full (length out-luma), full (length out-cb), full (length out-cr));
-      luma-filled = over-all (copiedOf luma (lumaShape r)) out-luma (sym (ap (λ (sizes : Sizes). sizes .luma) said) ∙ sym (copied-size luma (lumaShape r)));
-      cb-filled = over-all (copiedOf second (cbShape r)) out-cb (sym (ap (λ (sizes : Sizes). sizes .cb) said) ∙ sym (copied-size second (cbShape r)));
+      luma-filled = over-all (copiedOf luma (lumaShape r)) out-luma (ap (λ (sizes : Sizes). sizes .luma) just ∙ sym (copied-size luma (lumaShape r)));
+      cb-filled = over-all (copiedOf second (cbShape r)) out-cb (ap (λ (sizes : Sizes). sizes .cb) just ∙ sym (copied-size second (cbShape r)));
       cr-filled =
           over-all (copiedOf (crBytes r second third) (crShape r)) out-cr
-          (sym (ap (λ (sizes : Sizes). sizes .cr) said) ∙ sym (copied-size (crBytes r second third) (crShape r)));
+          (ap (λ (sizes : Sizes). sizes .cr) just ∙ sym (copied-size (crBytes r second third) (crShape r)));
     }
 
 pub sizes-packed : SizesPacked

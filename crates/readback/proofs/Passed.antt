@@ -1,4 +1,4 @@
--- The copy's number from what the question got, what a copy that gets 0 has passed, and what it has written.
+-- The copy's number from what the outputs need, what a copy that gets 0 has passed, and what it has written.
 use Prim.Native.Nat.{ℕ}
 use mathlib.Core.Path.{_≡_, refl, sym, ap, _∙_}
 use mathlib.Core.Bool.{Bool, true, cond, _&&_, and-eq-true-iff}
@@ -11,12 +11,12 @@ use Rattle.laws.proofs.Refusal.{Tells, all-pass, told-value, written-done, refu
 use Rattle.plane.specs.declared.Shape.{Shape}
 use Rattle.readback.specs.declared.Readback.{Readback}
 use Rattle.readback.specs.declared.Sizes.{Sizes}
-use Rattle.readback.specs.declared.Asked.{Asked}
-use Rattle.readback.specs.declared.Asked.the-variants.{Value, Refused}
-use Rattle.readback.specs.Readback.{lumaShape, cbShape, crShape, crBytes, sizesOf, askedNo, askedValues, sizesTests, sizesNo, outputsHold, readbackTests, readbackNo, copiedOf}
-use Rattle.readback.specs.Inner.{PlaneReady, copyNo}
+use Rattle.readback.specs.declared.Needed.{Needed}
+use Rattle.readback.specs.declared.Needed.the-variants.{Value, Refused}
+use Rattle.readback.specs.Readback.{lumaShape, cbShape, crShape, crBytes, sizesOf, neededNo, neededValues, sizesTests, sizesNo, outputsHold, readbackTests, readbackNo, copiedOf}
+use Rattle.readback.specs.Inner.{PlaneReady, withRoom}
 
--- the copy's number, made from the answer that the planes get, is that of its own tests
+-- the copy's number, made from what is told of the planes, is that of its own tests
 module _ (r : Readback) (luma second third luma-room cb-room cr-room : ℕ) where
   -- 7 stands behind the tests of the planes
   pub seven-behind :
@@ -30,8 +30,8 @@ module _ (r : Readback) (luma second third luma-room cb-room cr-room : ℕ) wher
   refusal-stands refused = sym (refused-already (sizesTests r luma second third) ((7, outputsHold (sizesOf r) luma-room cb-room cr-room) ∷ []) refused)
 
   pub copy-number :
-      (asked : Asked) → Tells askedNo askedValues asked (sizesNo r luma second third) (sizesOf r)
-      → copyNo asked luma-room cb-room cr-room ≡ readbackNo r luma second third luma-room cb-room cr-room
+      (needed : Needed) → Tells neededNo neededValues needed (sizesNo r luma second third) (sizesOf r)
+      → withRoom needed luma-room cb-room cr-room ≡ readbackNo r luma second third luma-room cb-room cr-room
   copy-number (Value sizes) h =
       ap (λ (sizes : Sizes). cond (outputsHold sizes luma-room cb-room cr-room) 0 7) (told-value h refl refl refl) ∙ sym (seven-behind (sym (h .number-is)))
   copy-number (Refused n) h =

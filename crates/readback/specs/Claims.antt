@@ -11,9 +11,9 @@ use Rattle.plane.specs.declared.Layout.the-variants.{Planar}
 use Rattle.plane.specs.Plane.{sampleBytes, wordOf, codeOf, half}
 use Rattle.readback.specs.declared.Readback.{Readback}
 use Rattle.readback.specs.declared.Sizes.{Sizes}
-use Rattle.readback.specs.declared.Asked.{Asked}
+use Rattle.readback.specs.declared.Needed.{Needed}
 use Rattle.readback.specs.Readback.{lumaShape, cbShape, crShape, crBytes, packedBytes, sizesOf, sizesTests, sizesNo, readbackTests, readbackNo}
-use Rattle.readback.specs.Readback.{askedNo, askedValues, copiedOf, copiedAfter}
+use Rattle.readback.specs.Readback.{neededNo, neededValues, copiedOf, copiedAfter}
 
 -- ---- the numbers: 0 exactly when no number applies, and otherwise the lowest that does, of each call's own tests
 
@@ -24,16 +24,16 @@ abbrev pub ReadbackSays : Type 0
 ReadbackSays = (r : Readback) (luma second third luma-room cb-room cr-room : ℕ) → Says (readbackTests r luma second third luma-room cb-room cr-room)
 
 -- number and sizes leave no choice: a contract that settles both settles the answer
-abbrev pub OneAsked : Type 0
-OneAsked = (a b : Asked) → askedNo a ≡ askedNo b → askedValues a ≡ askedValues b → a ≡ b
+abbrev pub OneNeeded : Type 0
+OneNeeded = (a b : Needed) → neededNo a ≡ neededNo b → neededValues a ≡ neededValues b → a ≡ b
 
 -- ---- the two calls
 
--- an output is shorter than was said
+-- an output is shorter than was told
 abbrev pub Shorter : Sizes → Sizes → Type 0
-Shorter said rooms = (rooms .luma < said .luma) ⊎ ((rooms .cb < said .cb) ⊎ (rooms .cr < said .cr))
+Shorter told rooms = (rooms .luma < told .luma) ⊎ ((rooms .cb < told .cb) ⊎ (rooms .cr < told .cr))
 
--- The copy's number is the question's, except where that is 0 and an output is shorter than was said: then, and only then, it is 7.
+-- The number of `readback_copy` is that of `readback_sizes`, except where that is 0 and an output is shorter than was told: then, and only then, it is 7.
 pub record Follows (r : Readback) (luma second third luma-room cb-room cr-room : ℕ) : Type 0 where
   pub seven :
       (readbackNo r luma second third luma-room cb-room cr-room ≡ 7)
@@ -41,11 +41,12 @@ pub record Follows (r : Readback) (luma second third luma-room cb-room cr-room :
   pub alike :
       (readbackNo r luma second third luma-room cb-room cr-room ≡ 7 → ⊥)
       → readbackNo r luma second third luma-room cb-room cr-room ≡ sizesNo r luma second third
+  pub up-to-six : sizesNo r luma second third ≤ 6
 
 abbrev pub CopyFollows : Type 0
 CopyFollows = (r : Readback) (luma second third luma-room cb-room cr-room : ℕ) → Follows r luma second third luma-room cb-room cr-room
 
--- Into outputs of just the lengths that were said, the copy gets 0 and leaves the planes, with no byte of what the outputs held before.
+-- With outputs of just the lengths that were told, the copy gets 0, and they then hold the packed planes and no byte of what they held.
 pub record Filled (r : Readback) (luma second third out-luma out-cb out-cr : List ℕ) : Type 0 where
   pub done : readbackNo r (length luma) (length second) (length third) (length out-luma) (length out-cb) (length out-cr) ≡ 0
   pub luma-filled : copiedAfter 0 luma (lumaShape r) out-luma ≡ copiedOf luma (lumaShape r)
@@ -55,10 +56,10 @@ pub record Filled (r : Readback) (luma second third out-luma out-cb out-cr : Lis
 abbrev pub JustFills : Type 0
 JustFills =
     (r : Readback) (luma second third out-luma out-cb out-cr : List ℕ) → sizesNo r (length luma) (length second) (length third) ≡ 0
-    → sizesOf r ≡ record { luma = length out-luma; cb = length out-cb; cr = length out-cr }
+    → record { luma = length out-luma; cb = length out-cb; cr = length out-cr } ≡ sizesOf r
     → Filled r luma second third out-luma out-cb out-cr
 
--- What is said is the packed planes: height times width times bytes a sample, of each component by itself. No pitch and no count of planes is in it.
+-- What is told: height times width times bytes a sample, of each output's own component. No pitch and no count of planes is in it.
 abbrev pub packedSizes : ℕ → ℕ → ℕ → Sizes
 packedSizes width height depth = record {
   luma = height * (width * sampleBytes depth);
@@ -71,7 +72,7 @@ SizesPacked = (r : Readback) → sizesOf r ≡ packedSizes (r .width) (r .height
 
 -- ---- the copy
 
--- what is copied has the size that was said of its plane
+-- how long what is copied is, of each plane
 abbrev pub CopiedSize : Type 0
 CopiedSize = (bytes : List ℕ) (s : Shape) → length (copiedOf bytes s) ≡ packedBytes s
 

@@ -9,8 +9,8 @@ use Rattle.plane.specs.declared.Shape.{Shape}
 use Rattle.plane.specs.declared.Layout.{Layout}
 use Rattle.plane.specs.Plane.{alone, goodShape, planeBytes, half}
 use Rattle.readback.specs.declared.Readback.{Readback}
-use Rattle.readback.specs.declared.Asked.{Asked}
-use Rattle.readback.specs.declared.Asked.the-variants.{Value, Refused}
+use Rattle.readback.specs.declared.Needed.{Needed}
+use Rattle.readback.specs.declared.Needed.the-variants.{Value, Refused}
 use Rattle.readback.specs.declared.Kind.{Kind}
 use Rattle.readback.specs.declared.Kind.the-variants.{Byte, EverySecondByte, Pair, EverySecondPair}
 use Rattle.readback.specs.Readback.{packedBytes, outputsHold}
@@ -19,10 +19,10 @@ use Rattle.readback.specs.Readback.{packedBytes, outputsHold}
 abbrev pub chromaShape : Readback → ℕ → Layout → Shape
 chromaShape r pitch layout = record { width = half (r .width); height = half (r .height); depth = r .depth; stride = pitch; layout = layout }
 
--- the copy's number from what the question got: its refusal, or 7 where there is no room
-abbrev pub copyNo : Asked → ℕ → ℕ → ℕ → ℕ
-copyNo (Value sizes) luma-room cb-room cr-room = cond (outputsHold sizes luma-room cb-room cr-room) 0 7
-copyNo (Refused n) luma-room cb-room cr-room = n
+-- the copy's number from what the outputs need: its refusal, or 7 where there is no room
+abbrev pub withRoom : Needed → ℕ → ℕ → ℕ → ℕ
+withRoom (Value sizes) luma-room cb-room cr-room = cond (outputsHold sizes luma-room cb-room cr-room) 0 7
+withRoom (Refused n) luma-room cb-room cr-room = n
 
 abbrev pub kindBy : Bool → Bool → Kind
 kindBy byte one = cond byte (cond one Byte EverySecondByte) (cond one Pair EverySecondPair)
@@ -60,7 +60,7 @@ pub record RowRoom (kind : Kind) (width : ℕ) (to row : List ℕ) : Type 0 wher
   pub source : length row ≡ width * stepOf kind
   pub target : length to ≡ width * sizeOf kind
 
--- What a call that gets 0 has passed, of one plane: its shape is within the bounds, it has the bytes that it needs, its output has room.
+-- What a copy that gets 0 has passed, of one plane: its shape is within the bounds, it has the bytes that it needs, its output has room.
 pub record PlaneReady (s : Shape) (bytes room : ℕ) : Type 0 where
   pub good : goodShape s ≡ true
   pub long : planeBytes s ≤ bytes

@@ -1,5 +1,5 @@
--- A frame read back from a device (docs/RULES.md, "Fields and readback"; the source is weave.rs): the sizes that are told, the numbers of both
--- calls, and the three planes that are copied out.
+-- A frame read back from a device (docs/RULES.md, "Fields and readback"; the source is weave.rs): the sizes that `readback_sizes` tells, the
+-- numbers of both calls, and the three planes that `readback_copy` copies out.
 use Prim.Native.Nat.{ℕ, _*_, _/_, _%_}
 use mathlib.Core.Bool.{Bool, cond, _&&_}
 use mathlib.Core.List.{List, [], _∷_, _++_}
@@ -14,8 +14,8 @@ use Rattle.plane.specs.declared.Layout.the-variants.{Luma, First, Second}
 use Rattle.plane.specs.Plane.{goodShape, planeBytes, sampleBytes, wordOf, half}
 use Rattle.readback.specs.declared.Readback.{Readback}
 use Rattle.readback.specs.declared.Sizes.{Sizes}
-use Rattle.readback.specs.declared.Asked.{Asked}
-use Rattle.readback.specs.declared.Asked.the-variants.{Value, Refused}
+use Rattle.readback.specs.declared.Needed.{Needed}
+use Rattle.readback.specs.declared.Needed.the-variants.{Value, Refused}
 
 -- ---- the planes that were read back
 
@@ -46,7 +46,7 @@ crBytes r second third = cond (shared r) second third
 
 -- ---- the sizes
 
--- a component without padding
+-- a plane's own component without padding
 abbrev pub packedBytes : Shape → ℕ
 packedBytes s = s .height * (s .width * sampleBytes (s .depth))
 
@@ -54,18 +54,18 @@ packedBytes s = s .height * (s .width * sampleBytes (s .depth))
 abbrev pub sizesOf : Readback → Sizes
 sizesOf r = record { luma = packedBytes (lumaShape r); cb = packedBytes (cbShape r); cr = packedBytes (crShape r) }
 
--- An answer by its cases: the sizes are number 0 and those sizes, a refusal its number and no sizes.
-abbrev pub askedNo : Asked → ℕ
-askedNo (Value sizes) = 0
-askedNo (Refused n) = n
+-- An answer by its cases: `Value` is number 0 and its sizes, a refusal its number and no sizes.
+abbrev pub neededNo : Needed → ℕ
+neededNo (Value sizes) = 0
+neededNo (Refused n) = n
 
-abbrev pub askedValues : Asked → List Sizes
-askedValues (Value sizes) = sizes ∷ []
-askedValues (Refused n) = []
+abbrev pub neededValues : Needed → List Sizes
+neededValues (Value sizes) = sizes ∷ []
+neededValues (Refused n) = []
 
 -- ---- the numbers
 
--- 1: there is no plane, or more than three. 2: there is only luma. 4: a shape is outside the bounds. 6: a plane is shorter than its shape needs.
+-- Of `readback_sizes`. 1: there is no plane, or more than three. 2: there is only luma. 4: a shape is outside the bounds. 6: a plane is shorter than its shape needs.
 -- The chroma planes have no sizes of their own, so that nothing can differ (5). A plane beyond the count is not looked at.
 abbrev pub sizesTests : Readback → ℕ → ℕ → ℕ → List (ℕ × Bool)
 sizesTests r luma second third =
@@ -82,7 +82,7 @@ sizesNo r luma second third = lowest (sizesTests r luma second third)
 abbrev pub outputsHold : Sizes → ℕ → ℕ → ℕ → Bool
 outputsHold sizes luma-room cb-room cr-room = leb (sizes .luma) luma-room && leb (sizes .cb) cb-room && leb (sizes .cr) cr-room
 
--- The copy has the same tests, and behind them 7: an output is too short.
+-- Of `readback_copy`: the same tests, and behind them 7: an output is too short.
 abbrev pub readbackTests : Readback → ℕ → ℕ → ℕ → ℕ → ℕ → ℕ → List (ℕ × Bool)
 readbackTests r luma second third luma-room cb-room cr-room =
     sizesTests r luma second third ++ ((7, outputsHold (sizesOf r) luma-room cb-room cr-room) ∷ [])

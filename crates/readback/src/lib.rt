@@ -15,8 +15,8 @@ ghost use Rattle.laws.specs.Refusal.{whenDone};
 ghost use Rattle.laws.specs.Rows.{laid, over};
 ghost use Rattle.plane.specs.declared.Layout.the-variants.{Luma};
 ghost use Rattle.plane.specs.Plane.{sampleBytes, goodShape, planeBytes};
-ghost use Rattle.readback.specs.Readback.{lumaShape, shared, cbShape, crShape, crBytes, packedBytes, sizesOf, askedNo, askedValues, sizesNo, outputsHold, sizesNoOf, readbackNoOf, copiedOf, copiedAfter};
-ghost use Rattle.readback.specs.Inner.{chromaShape, copyNo, kindOf, stepOf, copyIn, RowRoom, PlaneReady};
+ghost use Rattle.readback.specs.Readback.{lumaShape, shared, cbShape, crShape, crBytes, packedBytes, sizesOf, neededNo, neededValues, sizesNo, outputsHold, sizesNoOf, readbackNoOf, copiedOf, copiedAfter};
+ghost use Rattle.readback.specs.Inner.{chromaShape, withRoom, kindOf, stepOf, copyIn, RowRoom, PlaneReady};
 ghost use Rattle.readback.specs.declared.Kind.the-variants.{Byte, EverySecondByte, Pair, EverySecondPair};
 use plane::Layout;
 use plane::Shape;
@@ -40,8 +40,8 @@ pub struct Sizes {
     pub cr: usize,
 }
 
-// What one gets who asks for them.
-pub enum Asked {
+// What is told of them.
+pub enum Needed {
     Value(Sizes),
     Refused(u8),
 }
@@ -205,16 +205,16 @@ fn sizes_of(about: Readback) -> Sizes
     }
 }
 
-// How long the outputs of `readback_copy` have to be for these planes.
-pub fn readback_sizes(about: Readback, luma: &[u8], second: &[u8], third: &[u8]) -> Asked
-    ensures { λ r. ⌜ askedNo r ≡ sizesNoOf about luma second third ⌝ }
-    ensures { λ r. ⌜ askedValues r ≡ whenDone (sizesNoOf about luma second third) (sizesOf about) ⌝ }
+// Tells how long the outputs of `readback_copy` have to be for these planes.
+pub fn readback_sizes(about: Readback, luma: &[u8], second: &[u8], third: &[u8]) -> Needed
+    ensures { λ r. ⌜ neededNo r ≡ sizesNoOf about luma second third ⌝ }
+    ensures { λ r. ⌜ neededValues r ≡ whenDone (sizesNoOf about luma second third) (sizesOf about) ⌝ }
 {
     let no = sizes_no(about, luma.len(), second.len(), third.len());
     if no != 0 {
-        return Asked::Refused(no);
+        return Needed::Refused(no);
     }
-    Asked::Value(sizes_of(about))
+    Needed::Value(sizes_of(about))
 }
 
 fn outputs_hold(sizes: Sizes, luma_room: usize, cb_room: usize, cr_room: usize) -> bool
@@ -224,16 +224,16 @@ fn outputs_hold(sizes: Sizes, luma_room: usize, cb_room: usize, cr_room: usize) 
 }
 
 // The number of `readback_copy`, from what `readback_sizes` gives and the lengths of the outputs.
-fn copy_no(asked: Asked, luma_room: usize, cb_room: usize, cr_room: usize) -> u8
-    ensures { λ r. ⌜ r ≡ copyNo asked «luma_room» «cb_room» «cr_room» ⌝ }
+fn copy_no(needed: Needed, luma_room: usize, cb_room: usize, cr_room: usize) -> u8
+    ensures { λ r. ⌜ r ≡ withRoom needed «luma_room» «cb_room» «cr_room» ⌝ }
 {
-    match asked {
-        Asked::Value(sizes) => refusal::test(
+    match needed {
+        Needed::Value(sizes) => refusal::test(
             refusal::SHORT_OUTPUT,
             outputs_hold(sizes, luma_room, cb_room, cr_room),
             refusal::DONE,
         ),
-        Asked::Refused(no) => no,
+        Needed::Refused(no) => no,
     }
 }
 
@@ -378,8 +378,8 @@ fn copy_cr(out: &mut [u8], about: Readback, second: &[u8], third: &[u8])
     copy_rows(out, third, s);
 }
 
-// The three planes, each to its output. Nothing is supposed of what was asked before: the planes are
-// judged anew, and the outputs by these sizes.
+// The three planes, each to the front of its output. The planes are judged anew, and the outputs by the
+// sizes found anew, whatever was told before.
 pub fn readback_copy(
     out_luma: &mut [u8],
     out_cb: &mut [u8],
@@ -394,8 +394,8 @@ pub fn readback_copy(
     ensures { λ r. ⌜ now («out_cb» .exit) ≡ copiedAfter r (now (second .entry)) (cbShape about) (now («out_cb» .entry)) ⌝ }
     ensures { λ r. ⌜ now («out_cr» .exit) ≡ copiedAfter r (crBytes about (now (second .entry)) (now (third .entry))) (crShape about) (now («out_cr» .entry)) ⌝ }
 {
-    let asked = readback_sizes(about, luma, second, third);
-    let no = copy_no(asked, out_luma.len(), out_cb.len(), out_cr.len());
+    let needed = readback_sizes(about, luma, second, third);
+    let no = copy_no(needed, out_luma.len(), out_cb.len(), out_cr.len());
     if no == 0 {
         copy_rows(out_luma, luma, luma_shape(about));
         copy_rows(out_cb, second, cb_shape(about));

@@ -2,7 +2,7 @@
 use Rattle.laws.specs.Refusal.{rising}
 use Rattle.laws.proofs.Claims.{lowest-says}
 use Rattle.weavedesk.specs.Claims.{WeaveSays, LineSays, LineOutSays, SizesSays, ReadbackSays, NewSays, ClearSays, PushSays}
-use Rattle.weavedesk.specs.Claims.{AskThenCopy, FoundAgain, AlwaysSized, PushSized, PairsWoven, RefusalKnown, RefusedLeaves, PlacesStay, TooShort}
+use Rattle.weavedesk.specs.Claims.{AskThenCopy, OneFrame, FoundAgain, AlwaysSized, PushSized, PairsWoven, RefusalKnown, RefusedLeaves, PlacesStay, TooShort}
 use Rattle.weavedesk.proofs.Readback as readback
 use Rattle.weavedesk.proofs.States as states
 use Rattle.weavedesk.proofs.Demand as demand
@@ -43,6 +43,9 @@ push-says l o = lowest-says _ tt
 -- ---- a frame read back
 pub ask-then-copy : AskThenCopy
 ask-then-copy = readback.ask-then-copy
+
+pub one-frame : OneFrame
+one-frame = readback.one-frame
 
 -- ---- states
 pub found-again : FoundAgain

@@ -1,6 +1,6 @@
--- The contracts of the exported calls on a weaver are what the histories take them for, and those of the two calls on a frame read back what Readback
--- takes them for: each, read as a plain type over the parameters of its signature in their order, comes to the number, the places and the lists that
--- are given there. So a contract that means other parameters is refused here, though its code meet it.
+-- The contracts of exported calls, each read as a plain type over the parameters of its signature in their order. Those of the calls on a weaver come to the
+-- number, the places and the lists that specs/History and specs/Push give; those of the two calls on a frame read back to what specs/Readback gives. So a
+-- contract that means other parameters is refused here, though its code meet it.
 use Prim.Native.Nat.{ℕ}
 use mathlib.Core.Path.{_≡_, ap, _∙_}
 use mathlib.Core.List.{List}

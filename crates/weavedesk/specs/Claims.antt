@@ -2,11 +2,11 @@
 use Prim.Native.Nat.{ℕ, _≤_, _<_, _^_}
 use mathlib.Core.Path.{_≡_}
 use mathlib.Core.Logic.{_↔_}
-use mathlib.Core.List.{List, _∷_}
+use mathlib.Core.List.{List, [], _∷_}
 use lib.IntN.{ℤ, pos}
 use lib.ListN.{length}
 use Rattle.laws.specs.Refusal.{lowest, Says}
-use Rattle.laws.specs.Rows.{over}
+use Rattle.laws.specs.Rows.{listed, over}
 use Rattle.numbers.specs.declared.GridNumbers.{GridNumbers}
 use Rattle.numbers.specs.Numbers.{gridNamed}
 use Rattle.weave.specs.Weave.{givenOf, weaveTests, lineTests}
@@ -19,7 +19,7 @@ use Rattle.readback.specs.Claims.{Shorter, packedSizes}
 use Rattle.weavedesk.specs.declared.FieldNumbers.{FieldNumbers}
 use Rattle.weavedesk.specs.declared.ReadbackNumbers.{ReadbackNumbers}
 use Rattle.weavedesk.specs.Woven.{fieldNamed, readbackNamed, lineOutTests}
-use Rattle.weavedesk.specs.Readback.{Frame, Outputs, lengths, askNo, placesAfter, copyNo, outputsAfter, planesOf}
+use Rattle.weavedesk.specs.Readback.{Frame, Outputs, lengths, askNo, placesAfter, copyNo, outputsAfter, planesMeant, atFront}
 use Rattle.weavedesk.specs.Waiting.{wholeSize, timeSize, weaverIn, keeping}
 use Rattle.weavedesk.specs.Push.{Lent, Offer, newTests, newNo, clearTests, clearNo, pushTests, pushNo}
 use Rattle.weavedesk.specs.Push.{weaverAfter, lumaAfter, cbAfter, crAfter, pictureAfter, timedAfter, timeAfter}
@@ -59,25 +59,63 @@ ClearSays = (state : ℕ) → Says (clearTests state)
 abbrev pub PushSays : Type 0
 PushSays = (l : Lent) (o : Offer) → Says (pushTests l o)
 
--- ---- a frame read back: the host asks, and copies the same frame
+-- ---- a frame read back: the host asks for its sizes, and copies the same frame
 
 pub record InTurn (f : Frame) (places : Sizes) (outs : Outputs) : Type 0 where
-  -- The copy gets the question's number, except where that is 0 and an output is shorter than the places say: then, and only then, it gets 7.
+  -- The copy gets the number of the call before it, except where that is 0 and an output is shorter than the places say: then, and only then, 7.
   pub seven : (copyNo f outs ≡ 7) ↔ ((askNo f ≡ 0) × Shorter (placesAfter (askNo f) f places) (lengths outs))
   pub alike : (copyNo f outs ≡ 7 → ⊥) → copyNo f outs ≡ askNo f
-  -- What the places say are the sizes of the packed planes, by the numbers that the host gave.
+  pub up-to-six : askNo f ≤ 6
+  -- What the places say is height times width times bytes a sample, by the numbers that the host gave,
   pub packed : askNo f ≡ 0 → placesAfter (askNo f) f places ≡ packedSizes (f .about .width) (f .about .height) (f .about .depth)
-  -- Outputs of just these lengths get the frame's planes, and keep no byte of what they held.
+  -- and it is how long the planes are that the host means.
+  pub as-long : askNo f ≡ 0 → placesAfter (askNo f) f places ≡ lengths (planesMeant f)
+  -- Outputs that are no shorter get these planes at their fronts, and their rest stays;
+  pub front :
+      askNo f ≡ 0 → (Shorter (placesAfter (askNo f) f places) (lengths outs) → ⊥)
+      → (copyNo f outs ≡ 0) × (outputsAfter (copyNo f outs) f outs ≡ atFront (planesMeant f) outs)
+  -- outputs of just these lengths get the planes, and keep no byte of what they held.
   pub filled :
       askNo f ≡ 0 → lengths outs ≡ placesAfter (askNo f) f places
-      → (copyNo f outs ≡ 0) × (outputsAfter (copyNo f outs) f outs ≡ planesOf f)
-  -- A refused call leaves what it was lent.
+      → (copyNo f outs ≡ 0) × (outputsAfter (copyNo f outs) f outs ≡ planesMeant f)
+  -- A refused call changes nothing that it was lent.
   pub places-stay : (askNo f ≡ 0 → ⊥) → placesAfter (askNo f) f places ≡ places
   pub outputs-stay : (copyNo f outs ≡ 0 → ⊥) → outputsAfter (copyNo f outs) f outs ≡ outs
 
--- Whatever the places and the outputs held.
+-- So it is of every frame, whatever the places and the outputs held.
 abbrev pub AskThenCopy : Type 0
 AskThenCopy = (f : Frame) (places : Sizes) (outs : Outputs) → InTurn f places outs
+
+-- One frame written out: 3 by 2 samples of 10 bits, which stand in the high bits of their words. Luma is 1 2 3, two bytes of padding, 4 5 1023, the last of
+-- these by the list that is given; cb 6 8 and cr 7 9 share a plane.
+abbrev pub oneFrame : ℕ → List ℕ → Frame
+oneFrame planes last = record {
+  about = record { planes = planes; width = 3; height = 2; depth = 10; «luma_pitch» = 8; «second_pitch» = 8; «third_pitch» = 0 };
+  luma = 64 ∷ 0 ∷ 128 ∷ 0 ∷ 192 ∷ 0 ∷ 99 ∷ 99 ∷ 0 ∷ 1 ∷ 64 ∷ 1 ∷ last;
+  second = 128 ∷ 1 ∷ 192 ∷ 1 ∷ 0 ∷ 2 ∷ 64 ∷ 2 ∷ [];
+  third = [];
+}
+
+abbrev pub blank : ℕ → ℕ → ℕ → Outputs
+blank luma cb cr = record { luma = listed luma (λ _. 99); cb = listed cb (λ _. 99); cr = listed cr (λ _. 99) }
+
+-- its sizes, its planes in outputs of which cr's is a byte longer, and each of the refusals
+abbrev pub OneFrame : Type 0
+OneFrame =
+    let f = oneFrame 2 (192 ∷ 255 ∷ []) in
+    (askNo f ≡ 0)
+    × ((places : Sizes) → placesAfter 0 f places ≡ record { luma = 12; cb = 4; cr = 4 })
+    × (copyNo f (blank 12 4 5) ≡ 0)
+    × (
+    outputsAfter 0 f (blank 12 4 5)
+    ≡ record { luma = 1 ∷ 0 ∷ 2 ∷ 0 ∷ 3 ∷ 0 ∷ 4 ∷ 0 ∷ 5 ∷ 0 ∷ 255 ∷ 3 ∷ []; cb = 6 ∷ 0 ∷ 8 ∷ 0 ∷ []; cr = 7 ∷ 0 ∷ 9 ∷ 0 ∷ 99 ∷ [] }
+    )
+    × (askNo (oneFrame 0 []) ≡ 1)
+    × (askNo (oneFrame 4 []) ≡ 1)
+    × (askNo (oneFrame 1 []) ≡ 2)
+    × (askNo (oneFrame 3 []) ≡ 4)
+    × (askNo (oneFrame 2 (192 ∷ [])) ≡ 6)
+    × (copyNo f (blank 12 4 3) ≡ 7)
 
 -- ---- states
 

@@ -1,4 +1,4 @@
--- The definitions that the exported functions' contracts cite, histories of calls, and the claims.
+-- The definitions that the exported functions' contracts cite, what a host does with several calls, and the claims.
 pub mod Woven
 pub mod Readback
 pub mod Waiting

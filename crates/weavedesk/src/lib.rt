@@ -5,7 +5,7 @@
 // lends.
 use field::Parity;
 use numbers::GridNumbers;
-use readback::Asked;
+use readback::Needed;
 use weaver::Paired;
 use weaver::Time;
 use weaver::Weaver;
@@ -435,13 +435,13 @@ pub extern "C" fn desk_readback_sizes(
     ensures { λ r. ⌜ now («cr_bytes» .exit) ≡ written r (sizesOf (readbackNamed about) .cr) (now («cr_bytes» .entry)) ⌝ }
 {
     match readback::readback_sizes(readback_cut(about), luma, second, third) {
-        Asked::Value(sizes) => {
+        Needed::Value(sizes) => {
             *luma_bytes = sizes.luma as u64;
             *cb_bytes = sizes.cb as u64;
             *cr_bytes = sizes.cr as u64;
             0
         }
-        Asked::Refused(no) => no,
+        Needed::Refused(no) => no,
     }
 }
 

@@ -208,3 +208,28 @@ fn a_readback_loses_padding_and_shift() {
     };
     assert!(frame_of_readback(&only_luma).is_err());
 }
+
+/// The frame of the claim `OneFrame`, crates/weavedesk/specs/Claims.antt.
+#[test]
+fn the_frame_that_a_claim_writes_out_is_read_back_so() {
+    let luma = vec![64, 0, 128, 0, 192, 0, 99, 99, 0, 1, 64, 1, 192, 255];
+    let shared = vec![128, 1, 192, 1, 0, 2, 64, 2];
+    let read = Readback {
+        about: About {
+            format: Format {
+                width: 3,
+                height: 2,
+                depth: 10,
+                ..Format::default()
+            },
+            ..About::default()
+        },
+        planes: vec![(luma, 8, 2), (shared, 8, 1)],
+    };
+    let [luma, cb, cr] = frame_of_readback(&read)
+        .expect("two planes that suffice")
+        .planes;
+    assert_eq!(luma.data, [1, 0, 2, 0, 3, 0, 4, 0, 5, 0, 255, 3]);
+    assert_eq!(cb.data, [6, 0, 8, 0]);
+    assert_eq!(cr.data, [7, 0, 9, 0]);
+}

@@ -17,10 +17,10 @@ judged :
     (length (now (a .out-cb))) (length (now (a .out-cr)))
 judged t =
     let a = t .before .before .before .before .before .before .before .before .args in
-    let asked = t .before .readback-sizes in
+    let needed = t .before .readback-sizes in
     t .copy-no .ensures
     ∙ copy-number (a .about) (length (now (a .luma))) (length (now (a .second))) (length (now (a .third))) (length (now (a .out-luma)))
-    (length (now (a .out-cb))) (length (now (a .out-cr))) (asked .result) (record { number-is = asked .ensures .0; values-are = asked .ensures .1 })
+    (length (now (a .out-cb))) (length (now (a .out-cr))) (needed .result) (record { number-is = needed .ensures .0; values-are = needed .ensures .1 })
 
 -- what was tested, where it is 0
 passed :

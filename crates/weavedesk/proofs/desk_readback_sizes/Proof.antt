@@ -8,7 +8,7 @@ use Rattle.laws.specs.Refusal.{whenDone}
 use Rattle.laws.proofs.Refusal.{Tells, told-number, told-value, told-nothing, written-alike}
 use Rattle.readback.specs.declared.Readback.{Readback}
 use Rattle.readback.specs.declared.Sizes.{Sizes}
-use Rattle.readback.specs.Readback.{sizesOf, askedNo, askedValues, sizesNo}
+use Rattle.readback.specs.Readback.{sizesOf, neededNo, neededValues, sizesNo}
 use Rattle.weavedesk.specs.Woven.{readbackNamed}
 use Rattle.weavedesk.specs.Inner.{readbackCut}
 use Rattle.weavedesk.proofs.Narrowed.{nothing, readback-number, readback-same}
@@ -31,7 +31,7 @@ enum-known-no c = search needs
 answered :
     (k : tie.After-readback-sizes) →
     let a = k .before .before .before .before .before .args in
-    Tells askedNo askedValues (k .readback-sizes .result)
+    Tells neededNo neededValues (k .readback-sizes .result)
     (sizesNo (readbackNamed (a .about)) (length (now (a .luma))) (length (now (a .second))) (length (now (a .third)))) (sizesOf (readbackNamed (a .about)))
 answered k =
     let a = k .before .before .before .before .before .args in
