@@ -15,7 +15,8 @@ ghost use Rattle.laws.specs.Refusal.{whenDone};
 ghost use Rattle.laws.specs.Rows.{laid, over};
 ghost use Rattle.plane.specs.declared.Layout.the-variants.{Luma};
 ghost use Rattle.plane.specs.Plane.{sampleBytes, goodShape, planeBytes};
-ghost use Rattle.readback.specs.Readback.{lumaShape, shared, cbShape, crShape, crBytes, packedBytes, sizesOf, neededNo, neededValues, sizesNo, outputsHold, sizesNoOf, readbackNoOf, copiedOf, copiedAfter};
+ghost use Rattle.readback.specs.Readback.{lumaShape, shared, cbShape, crShape, crBytes, packedBytes, sizesOf, neededNo, neededValues, sizesNo};
+ghost use Rattle.readback.specs.Readback.{outputsHold, sizesNoOf, readbackNoOf, copiedOf, copiedAfter};
 ghost use Rattle.readback.specs.Inner.{chromaShape, withRoom, kindOf, stepOf, copyIn, RowRoom, PlaneReady};
 ghost use Rattle.readback.specs.declared.Kind.the-variants.{Byte, EverySecondByte, Pair, EverySecondPair};
 use plane::Layout;
@@ -40,7 +41,7 @@ pub struct Sizes {
     pub cr: usize,
 }
 
-// What is told of them.
+// What is told of a frame's planes: these, or why there are none.
 pub enum Needed {
     Value(Sizes),
     Refused(u8),
@@ -217,6 +218,8 @@ pub fn readback_sizes(about: Readback, luma: &[u8], second: &[u8], third: &[u8])
     Needed::Value(sizes_of(about))
 }
 
+// ---- the copy
+
 fn outputs_hold(sizes: Sizes, luma_room: usize, cb_room: usize, cr_room: usize) -> bool
     ensures { λ r. ⌜ r ≡ outputsHold sizes «luma_room» «cb_room» «cr_room» ⌝ }
 {
@@ -236,8 +239,6 @@ fn copy_no(needed: Needed, luma_room: usize, cb_room: usize, cr_room: usize) -> 
         Needed::Refused(no) => no,
     }
 }
-
-// ---- the copy
 
 fn wide(byte: u8) -> u16
     ensures { λ r. ⌜ (r ≡ byte) × (r < 256) ⌝ }
