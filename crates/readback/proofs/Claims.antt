@@ -20,8 +20,8 @@ use Rattle.plane.specs.Plane.{sampleBytes, fullCode, wordOf, codeOf}
 use Rattle.readback.specs.declared.Readback.{Readback}
 use Rattle.readback.specs.declared.Sizes.{Sizes}
 use Rattle.readback.specs.declared.Needed.the-variants.{Value, Refused}
-use Rattle.readback.specs.Readback.{lumaShape, cbShape, crShape, crBytes, packedBytes, sizesOf, sizesTests, sizesNo, outputsHold, readbackTests, readbackNo}
-use Rattle.readback.specs.Readback.{wordBytes, copiedRow, copiedOf, copiedAfter}
+use Rattle.readback.specs.Readback.{lumaShape, cbShape, crShape, crBytes, sizesOf, sizesTests, sizesNo, outputsHold, readbackTests, readbackNo}
+use Rattle.readback.specs.Readback.{wordBytes, copiedRow, copiedOf}
 use Rattle.readback.specs.Claims.{SizesSays, ReadbackSays, OneNeeded, Shorter, Follows, CopyFollows, JustFills, SizesPacked, CopiedSize, WordsKept, CodesKept}
 use Rattle.readback.proofs.Rows.{length-word, length-copied}
 use Rattle.readback.proofs.Passed.{seven-behind, refusal-stands}
@@ -66,18 +66,21 @@ above-six n most seven = omega arith
 
 -- an output is shorter exactly where there is no room
 module _ (told : Sizes) (luma-room cb-room cr-room : ℕ) where
-  shorter : outputsHold told luma-room cb-room cr-room ≡ false → Shorter told (record { luma = luma-room; cb = cb-room; cr = cr-room })
+  abbrev rooms : Sizes
+  rooms = record { luma = luma-room; cb = cb-room; cr = cr-room }
+
+  shorter : outputsHold told luma-room cb-room cr-room ≡ false → Shorter told rooms
   shorter e = by (known (leb (told .luma) luma-room)) (known (leb (told .cb) cb-room)) (known (leb (told .cr) cr-room))
     where
       by :
           (leb (told .luma) luma-room ≡ true) ⊎ (leb (told .luma) luma-room ≡ false) → (leb (told .cb) cb-room ≡ true) ⊎ (leb (told .cb) cb-room ≡ false)
-          → (leb (told .cr) cr-room ≡ true) ⊎ (leb (told .cr) cr-room ≡ false) → Shorter told (record { luma = luma-room; cb = cb-room; cr = cr-room })
+          → (leb (told .cr) cr-room ≡ true) ⊎ (leb (told .cr) cr-room ≡ false) → Shorter told rooms
       by (inr p) cb cr = inl (leb-false _ _ p)
       by (inl p) (inr q) cr = inr (inl (leb-false _ _ q))
       by (inl p) (inl q) (inr s) = inr (inr (leb-false _ _ s))
       by (inl p) (inl q) (inl s) = clash (rw (p, q, s) refl) e
 
-  no-room : Shorter told (record { luma = luma-room; cb = cb-room; cr = cr-room }) → outputsHold told luma-room cb-room cr-room ≡ false
+  no-room : Shorter told rooms → outputsHold told luma-room cb-room cr-room ≡ false
   no-room (inl h) = simp (lt-leb (told .luma) luma-room h)
   no-room (inr (inl h)) = second-fails (leb (told .luma) luma-room) _ (leb (told .cr) cr-room) (lt-leb (told .cb) cb-room h)
   no-room (inr (inr h)) = and-fails (leb (told .luma) luma-room && leb (told .cb) cb-room) _ (lt-leb (told .cr) cr-room h)

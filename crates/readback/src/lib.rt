@@ -1,8 +1,8 @@
 // Copyright 2026 Till0196
 // SPDX-License-Identifier: Apache-2.0
-// Carried over from core/src/decode/weave.rs, and changed: planes are lent slices beside their pitches,
-// the frame goes to three lent outputs, what is out of bounds is refused by number, and a call of its
-// own says how long the outputs have to be.
+// Carried over from core/src/decode/weave.rs (`copied`), and changed: planes are lent slices beside
+// their pitches, the frame goes to three lent outputs, what is out of bounds is refused by number, and
+// a call of its own says how long the outputs have to be.
 //
 // A frame read back from a device: padding is dropped, words in the high bits are brought down, and
 // chroma that shares a plane is separated.
@@ -41,7 +41,7 @@ pub struct Sizes {
     pub cr: usize,
 }
 
-// What is told of a frame's planes: these, or why there are none.
+// What `readback_sizes` tells: the sizes, or the number of the refusal.
 pub enum Needed {
     Value(Sizes),
     Refused(u8),
@@ -127,19 +127,6 @@ fn cr_shape(about: Readback) -> Shape
 
 // ---- the number
 
-// A row without padding.
-fn packed_row(s: Shape) -> usize
-    ensures { λ r. ⌜ (r ≡ s .width * sampleBytes (s .depth)) × (r ≤ 131070) ⌝ }
-{
-    (s.width as usize) * plane::sample_bytes(s.depth as u32)
-}
-
-fn packed_bytes(s: Shape) -> usize
-    ensures { λ r. ⌜ r ≡ packedBytes s ⌝ }
-{
-    (s.height as usize) * packed_row(s)
-}
-
 // How long the plane is that cr is read from.
 fn cr_length(about: Readback, second: usize, third: usize) -> usize
     ensures { λ r. ⌜ r ≡ crBytes about second third ⌝ }
@@ -192,6 +179,19 @@ fn sizes_no(about: Readback, luma: usize, second: usize, third: usize) -> u8
 }
 
 // ---- the sizes
+
+// A row without padding.
+fn packed_row(s: Shape) -> usize
+    ensures { λ r. ⌜ (r ≡ s .width * sampleBytes (s .depth)) × (r ≤ 131070) ⌝ }
+{
+    (s.width as usize) * plane::sample_bytes(s.depth as u32)
+}
+
+fn packed_bytes(s: Shape) -> usize
+    ensures { λ r. ⌜ r ≡ packedBytes s ⌝ }
+{
+    (s.height as usize) * packed_row(s)
+}
 
 fn sizes_of(about: Readback) -> Sizes
     ensures { λ r. ⌜ r ≡ sizesOf about ⌝ }

@@ -82,7 +82,7 @@ pub record InTurn (f : Frame) (places : Sizes) (outs : Outputs) : Type 0 where
   pub places-stay : (askNo f ≡ 0 → ⊥) → placesAfter (askNo f) f places ≡ places
   pub outputs-stay : (copyNo f outs ≡ 0 → ⊥) → outputsAfter (copyNo f outs) f outs ≡ outs
 
--- So it is of every frame, whatever the places and the outputs held.
+-- This holds of every frame, whatever the places and the outputs held.
 abbrev pub AskThenCopy : Type 0
 AskThenCopy = (f : Frame) (places : Sizes) (outs : Outputs) → InTurn f places outs
 

@@ -25,7 +25,7 @@ pub record Frame : Type 0 where
   pub second : List ℕ
   pub third : List ℕ
 
--- to the copy; to the call before it three places for `Sizes`
+-- to the copy; the call before it is lent three places, read as `Sizes`
 pub record Outputs : Type 0 where
   pub luma : List ℕ
   pub cb : List ℕ
@@ -64,7 +64,7 @@ outputsAfter number f outs =
       cr = copiedAfter number (crBytes r (f .second) (f .third)) (crShape r) (outs .cr);
     }
 
--- ---- what the host means, spelled out here and nowhere taken from the contracts
+-- ---- what the host means: shapes and planes are spelled out here, and only what is copied of a shape, `copiedOf`, is the contracts' own
 
 -- Two planes are luma, and cb and cr sample by sample; three are luma, cb and cr. A row starts its pitch behind the one before it.
 abbrev pub lumaMeant : ReadbackNumbers → Shape

@@ -445,8 +445,9 @@ pub extern "C" fn desk_readback_sizes(
     }
 }
 
-// A frame read back, without padding, in three planes, each at the start of its output. The planes are
-// judged as for `desk_readback_sizes`, whether it was called or not. Numbers 1, 2, 4, 6 and 7.
+// A frame read back, without padding, in three planes, each at the start of its output. Of two planes
+// cb and cr are both read from the second. The planes are judged as for `desk_readback_sizes`, whether
+// it was called or not. Numbers 1, 2, 4, 6 and 7.
 #[no_mangle]
 pub extern "C" fn desk_readback_copy(
     about: ReadbackNumbers,

@@ -222,7 +222,7 @@ fn asked(about: ReadbackNumbers, [luma, second, third]: [&[u8]; 3]) -> [u64; 3] 
     [luma_bytes, cb_bytes, cr_bytes]
 }
 
-/// The question alone.
+/// The sizes alone.
 pub fn readback_sizes(size: Size, calls: u64) -> Contest {
     let input = format!("{size}, {calls} calls");
     let sides = move || {
@@ -238,7 +238,7 @@ pub fn readback_sizes(size: Size, calls: u64) -> Contest {
     Contest::new("readback_sizes", input, (calls, "call"), sides).beside("not in the original")
 }
 
-/// The question and the copy, as the Rust's one call does both.
+/// The sizes are asked for, and then the frame is copied, beside the Rust's one call.
 pub fn readback_copy(size: Size, depth: u32, planes: u32) -> Contest {
     let input = format!("{size}, {depth} bits, {planes} planes");
     let sides = move || {
@@ -263,7 +263,7 @@ pub fn readback_copy(size: Size, depth: u32, planes: u32) -> Contest {
         }
     };
     Contest::new("readback_copy", input, (size.pixels(), "pixel"), sides)
-        .beside("both: sizes asked, then the copy")
+        .beside("the Rust: one call, which makes its planes")
 }
 
 pub fn weaver_new(calls: u64) -> Contest {

@@ -49,7 +49,7 @@ fn lines(luma: &[u8]) -> Lines<'_> {
     Lines::packed(luma, WIDTH, HEIGHT, 8)
 }
 
-/// As a device holds rows of so many bytes: each one padded.
+/// Rows of `WIDTH` bytes as a device holds them, each padded to `PITCH`.
 fn padded(rows: &[u8]) -> Vec<u8> {
     let rows = rows.chunks(WIDTH as usize);
     rows.flat_map(|row| [row, &[0; (PITCH - WIDTH) as usize]].concat())

@@ -528,9 +528,9 @@ pub fn readback_sizes(
     }
 }
 
-/// A frame read back, without padding, in three planes, each at the start of its output. The planes are
-/// judged as for `desk_readback_sizes`, whether it was called or not. Gives 0; or 1, 2, 4, 6 or 7, and
-/// then all that is lent is as it was.
+/// A frame read back, without padding, in three planes, each at the start of its output. Of two planes
+/// cb and cr are both read from the second. The planes are judged as for `desk_readback_sizes`, whether
+/// it was called or not. Gives 0; or 1, 2, 4, 6 or 7, and then all that is lent is as it was.
 #[inline]
 pub fn readback_copy(
     about: ReadbackNumbers, luma: &[u8], second: &[u8], third: &[u8], out_luma: &mut [u8], out_cb: &mut [u8],

@@ -59,9 +59,9 @@
 //!
 //! # Buffers and threads
 //!
-//! A function here makes the buffers that it gives, but for [`readback_copy`]. Where they should be used
-//! again, [`calls`] has every call as it is exported: numbers and lent slices in, a number out. It is
-//! made from the exports' own source.
+//! A function here makes the buffers that it gives; only [`readback_copy`] fills the caller's own. Where
+//! others should be used again, [`calls`] has every call as it is exported: numbers and lent slices in,
+//! a number out. It is made from the exports' own source.
 //!
 //! The archives keep nothing between two calls: all state is in the bytes that the caller lends. So
 //! any thread may make any call at any time, and a [`Detector`] or a [`Weaver`] may be sent to

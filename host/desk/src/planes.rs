@@ -118,13 +118,13 @@ impl<'a> Lines<'a> {
 /// How many samples a call gives of so many bytes. A shape that they cannot fill, with a byte or
 /// more for each sample, gets none: the call refuses it, and no room has to be made, however
 /// large the shape says it is.
-pub(crate) fn samples(bytes: &[u8], width: u32, height: u32) -> usize {
+fn samples(bytes: &[u8], width: u32, height: u32) -> usize {
     let samples = u64::from(width) * u64::from(height);
     let fits = samples <= bytes.len() as u64;
     if fits { samples as usize } else { 0 }
 }
 
-pub(crate) fn sample_bytes(depth: u32) -> u32 {
+fn sample_bytes(depth: u32) -> u32 {
     if depth > 8 { 2 } else { 1 }
 }
 

@@ -39,9 +39,10 @@ pub struct Padded<'a> {
     pub stride: u32,
 }
 
-/// The planes luma, cb and cr without padding and without shift, which every other call takes as
+/// Luma, cb and cr in this order, without padding and without shift, which every other call takes as
 /// planar. It asks for their sizes, makes the three buffers and copies. Refused with 4 and with 6; never
-/// with 7, since it is proved that buffers of the sizes that were said are long enough.
+/// with 7, since buffers of the sizes that were told are long enough (theorem `AskThenCopy`,
+/// crates/weavedesk/specs/Claims.antt).
 pub fn readback(frame: Readback<'_>) -> Result<[Vec<u8>; 3], Refusal> {
     let mut planes = readback_sizes(frame)?.map(|size| vec![0; size]);
     readback_copy(frame, planes.each_mut().map(Vec::as_mut_slice))?;
@@ -49,8 +50,9 @@ pub fn readback(frame: Readback<'_>) -> Result<[Vec<u8>; 3], Refusal> {
 }
 
 /// How many bytes luma, cb and cr take without padding: for a host that makes its buffers once for a
-/// tape, and copies each frame into them by [`readback_copy`]. Refused with 4 and with 6. The call gives
-/// 1 and 2 for other numbers of planes, of which [`ReadPlanes`] has none.
+/// tape, and copies each frame into them by [`readback_copy`]. No byte of the planes is read, only how
+/// many there are. Refused with 4 and with 6. The call gives 1 and 2 for other numbers of planes, of
+/// which [`ReadPlanes`] has none.
 pub fn readback_sizes(frame: Readback<'_>) -> Result<[usize; 3], Refusal> {
     let (about, [luma, second, third]) = frame.lent();
     let (mut luma_bytes, mut cb_bytes, mut cr_bytes) = (0, 0, 0);
@@ -66,7 +68,7 @@ pub fn readback_sizes(frame: Readback<'_>) -> Result<[usize; 3], Refusal> {
     Ok([luma_bytes, cb_bytes, cr_bytes].map(|size| size as usize))
 }
 
-/// The planes luma, cb and cr, each to the start of a buffer; what a buffer has beyond its plane stays.
+/// Luma, cb and cr, each to the start of its buffer; what a buffer has beyond its plane stays.
 /// Refused with 4, with 6, and with 7 where one is shorter than [`readback_sizes`] says of this frame,
 /// whatever it said of another.
 pub fn readback_copy(frame: Readback<'_>, buffers: [&mut [u8]; 3]) -> Result<(), Refusal> {

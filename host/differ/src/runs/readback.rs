@@ -48,27 +48,27 @@ struct Read {
     outs: [usize; 3],
 }
 
-/// Outputs about the sizes: just as long, longer, and for each one that lacks a
-/// byte.
-fn outs_about(sizes: [usize; 3]) -> Vec<[usize; 3]> {
-    let mut all = vec![sizes, sizes.map(|size| size + 33)];
+/// Outputs about the sizes, each with the number that the copy is to give: just
+/// as long, longer, and for each one that lacks a byte.
+fn outs_about(sizes: [usize; 3]) -> Vec<([usize; 3], u8)> {
+    let mut all = vec![(sizes, 0), (sizes.map(|size| size + 33), 0)];
     for at in 0..3 {
         let mut short = sizes;
         short[at] -= 1;
-        all.push(short);
+        all.push((short, 7));
     }
     all
 }
 
 impl Read {
-    /// The number of the question.
+    /// The number of `readback_sizes`.
     fn asked(&self) -> u8 {
         judge::weaves::readback_sizes(self.about, self.lengths())
     }
 
-    /// The number of the copy, to outputs of such lengths.
-    fn copied(&self, outs: [usize; 3]) -> u8 {
-        judge::weaves::readback_copy(self.about, self.lengths(), outs)
+    /// The number of `readback_copy`.
+    fn copied(&self) -> u8 {
+        judge::weaves::readback_copy(self.about, self.lengths(), self.outs)
     }
 
     fn lengths(&self) -> [usize; 3] {
@@ -125,8 +125,12 @@ impl Read {
         Ok(())
     }
 
-    fn copy(&self, outs: [usize; 3], planes: &Option<[Vec<u8>; 3]>) -> Result<u8, Difference> {
-        let number = self.copied(outs);
+    fn copy(
+        &self,
+        outs: [usize; 3],
+        number: u8,
+        planes: &Option<[Vec<u8>; 3]>,
+    ) -> Result<(), Difference> {
         let nothing = Default::default();
         let expected = match planes {
             Some(planes) if number == 0 => planes,
@@ -145,7 +149,7 @@ impl Read {
                 lent.written(expected)?;
             }
         }
-        Ok(number)
+        Ok(())
     }
 }
 
@@ -156,10 +160,11 @@ impl Case for Read {
             .as_ref()
             .map(|planes| planes.each_ref().map(Vec::len));
         self.ask(sizes)?;
-        for outs in sizes.map(outs_about).unwrap_or_default() {
-            self.copy(outs, &planes)?;
+        for (outs, number) in sizes.map(outs_about).unwrap_or_default() {
+            self.copy(outs, number, &planes)?;
         }
-        let number = self.copy(self.outs, &planes)?;
+        let number = self.copied();
+        self.copy(self.outs, number, &planes)?;
         for given in black_box(&self.planes) {
             let kept = given.lent() == given.plane().data;
             same("whether a lent plane is as it was", kept, true)?;
@@ -443,6 +448,7 @@ impl Read {
     }
 }
 
+/// Answers of `readback_sizes`, without an end.
 pub(crate) fn sizes(random: Random) -> impl Iterator<Item = Answer> {
     small(random).map(|read| {
         let made = read.made(read.asked());
@@ -454,9 +460,10 @@ pub(crate) fn sizes(random: Random) -> impl Iterator<Item = Answer> {
     })
 }
 
+/// Answers of `readback_copy`, without an end.
 pub(crate) fn copies(random: Random) -> impl Iterator<Item = Answer> {
     small(random).map(|read| {
-        let number = read.copied(read.outs);
+        let number = read.copied();
         let made = read.made(number).unwrap_or_default();
         let answer = read.with_planes(read.answer("readback_copy", number));
         let outs = made.iter().zip(read.outs);
