@@ -46,13 +46,7 @@ copied-size bytes s = length-laid (copiedRow bytes s) (s .width * sampleBytes (s
 
 -- ---- the two calls
 
-second-fails : (a b c : Bool) → b ≡ false → a && b && c ≡ false
-second-fails true b c e = rw e refl
-second-fails false b c e = refl
-
-apart : (n : ℕ) → n ≡ 0 → n ≡ 7 → ⊥
-apart n zero seven = omega arith
-
+-- no number of the first call is 7
 up-to-six : (a b c d : Bool) → lowest ((1, a) ∷ (2, b) ∷ (4, c) ∷ (6, d) ∷ []) ≤ 6
 unfolding lowest
 up-to-six false b c d = lit≤ tt
@@ -61,8 +55,8 @@ up-to-six true true false d = lit≤ tt
 up-to-six true true true false = lit≤ tt
 up-to-six true true true true = lit≤ tt
 
-above-six : (n : ℕ) → n ≤ 6 → n ≡ 7 → ⊥
-above-six n most seven = omega arith
+not-seven : {m n : ℕ} → m ≡ n → n ≤ 6 → m ≡ 7 → ⊥
+not-seven same most seven = omega arith
 
 -- an output is shorter exactly where there is no room
 module _ (told : Sizes) (luma-room cb-room cr-room : ℕ) where
@@ -82,7 +76,7 @@ module _ (told : Sizes) (luma-room cb-room cr-room : ℕ) where
 
   no-room : Shorter told rooms → outputsHold told luma-room cb-room cr-room ≡ false
   no-room (inl h) = simp (lt-leb (told .luma) luma-room h)
-  no-room (inr (inl h)) = second-fails (leb (told .luma) luma-room) _ (leb (told .cr) cr-room) (lt-leb (told .cb) cb-room h)
+  no-room (inr (inl h)) = rw (and-fails (leb (told .luma) luma-room) _ (lt-leb (told .cb) cb-room h)) refl
   no-room (inr (inr h)) = and-fails (leb (told .luma) luma-room && leb (told .cb) cb-room) _ (lt-leb (told .cr) cr-room h)
 
 module _ (r : Readback) (luma second third luma-room cb-room cr-room : ℕ) where
@@ -99,7 +93,7 @@ module _ (r : Readback) (luma second third luma-room cb-room cr-room : ℕ) wher
   taken done (inl e) =
       let zero : number ≡ 0 = seven-behind r luma second third luma-room cb-room cr-room done ∙ ap (λ (b : Bool). cond b 0 7) e in
       record {
-        seven = (λ h. absurd (apart number zero h), λ h. clash e (no-room (sizesOf r) luma-room cb-room cr-room (h .1)));
+        seven = (λ h. absurd (not-seven zero (lit≤ tt) h), λ h. clash e (no-room (sizesOf r) luma-room cb-room cr-room (h .1)));
         alike = λ _. zero ∙ sym done;
         up-to-six = six;
       }
@@ -115,7 +109,7 @@ module _ (r : Readback) (luma second third luma-room cb-room cr-room : ℕ) wher
   refused h =
       let same = refusal-stands r luma second third luma-room cb-room cr-room h in
       record {
-        seven = (λ e. absurd (above-six (sizesNo r luma second third) six (sym same ∙ e)), λ e. absurd (h (e .0)));
+        seven = (λ e. absurd (not-seven same six e), λ e. absurd (h (e .0)));
         alike = λ _. same;
         up-to-six = six;
       }

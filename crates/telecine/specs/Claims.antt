@@ -22,7 +22,8 @@ use Rattle.pulldown.specs.Claims as lock
 use Rattle.telecine.specs.declared.Detector.{Detector}
 use Rattle.telecine.specs.declared.Pushed.{Pushed}
 use Rattle.telecine.specs.Detector.{freshDetector, resetOf, measuredTests, pushTests}
-use Rattle.telecine.specs.History.{Push, picture, Call, push, reset, State, numberIn, cadenceIn, next, after, numberOf, cadenceOf, lastParity, seenOf, seens, framesOf, runOf, refusalTests, refusalOf, taken}
+use Rattle.telecine.specs.History.{Push, picture, Call, push, reset, State, numberIn, cadenceIn, next, after}
+use Rattle.telecine.specs.History.{numberOf, cadenceOf, lastParity, seenOf, seens, framesOf, runOf, refusalTests, refusalOf, taken}
 
 -- ---- demand 3
 
