@@ -3,6 +3,8 @@
 // many slices), then the numbers, then for each slice where it starts in the record and how many bytes
 // it has, then the slices' bytes. Every number has eight bytes, low byte first. What a record lacks
 // reads as 0 or as nothing, and `whole` says so.
+#![tactic(auto)]
+
 pub mod lent;
 
 ghost use Rattle.std.specs.Prelude.{◌≡◌, ◌%◌, ◌^◌, min, eqb, length};

@@ -4,6 +4,8 @@
 // store of width times height bytes, which a new picture is compared with and then written over.
 //
 // Which blocks of a field moved against the frame that a store keeps.
+#![tactic(auto)]
+
 ghost use Rattle.std.specs.Prelude.{◌≡◌, ◌+◌, ◌*◌, ◌/◌, ◌%◌, ◌^◌, ◌<◌, ◌≤◌, min, ltb, length, get_or, take, drop};
 ghost use Rattle.laws.specs.Refusal.{written};
 ghost use Rattle.laws.specs.Rows.{listed, over};
@@ -18,13 +20,13 @@ ghost use Rattle.block.specs.Counters.{differing_lists, differing_row, band_row,
 use plane::Grid;
 
 // Busy blocks, and all blocks, of a field.
-#[derive(Drop)]
+#[derive(Clone, Copy)]
 pub struct Counts {
     pub busy: u64,
     pub total: u64,
 }
 
-#[derive(Drop)]
+#[derive(Clone, Copy)]
 pub enum Counted {
     Value(Counts),
     Refused(u8),

@@ -4,6 +4,8 @@
 // `ListsEveryInput` of `listing`. What goes wrong is told on standard error: an input that cannot be read,
 // an output that cannot be written, which ends the program, and why a file is refused. A program of Rattle
 // sets no exit status, so that ./run goes by what was told.
+#![tactic(auto)]
+
 ghost use Rattle.std.specs.Prelude.{◌≡◌, ◌-◌, ◌≤◌, min, length, take};
 ghost use Rattle.cadence.specs.Told.{refusal_in};
 ghost use Rattle.cadence.specs.Turns.{done_with, Answers};
@@ -12,7 +14,7 @@ use listing::Lister;
 use pages::Ask;
 
 // What is left after what a step asked for was done, and whether to go on.
-#[derive(Drop)]
+#[derive(Clone, Copy)]
 struct Turn {
     lister: Lister,
     on: bool,

@@ -2,6 +2,8 @@
 // says of each, a line `NAME: ANSWER` (crates/cards/stdin). Of each card a line is printed, `NAME: ok`, or
 // what came and the list's line in its place; at the end, how many were run and how many differ. Those
 // that are proved (specs/Cards.antt) are run too.
+#![tactic(auto)]
+
 ghost use Rattle.std.specs.Prelude.{◌≡◌, ◌≤◌, List, ◌∷◌, length};
 ghost use Rattle.telecine.specs.History.{Call};
 ghost use Rattle.cards.specs.Cards.{measured_busy, entry, to_entry0, to_entry9, detector_after};
@@ -15,7 +17,7 @@ use telecine::{Detector, Measured};
 // ---- lines
 
 // Where the next card's line starts in the list, and how many cards were run and differ.
-#[derive(Drop)]
+#[derive(Clone, Copy)]
 struct Told {
     at: usize,
     run: u64,
@@ -148,7 +150,7 @@ fn tell_all(list: &[u8], told: Told) {
 // ---- the detector
 
 // What is left after some stills, and after how many of them there was a lock.
-#[derive(Drop)]
+#[derive(Clone, Copy)]
 struct Stills {
     detector: Detector,
     kept: u64,

@@ -4,6 +4,8 @@
 // and changed: the caller gives the nine numbers, and numbers out of range are refused.
 //
 // Y'CbCr to RGB in the original's order of operations, each step rounded once.
+#![tactic(auto)]
+
 ghost use Rattle.std.specs.Prelude.{◌≡◌};
 ghost use Rattle.laws.specs.Refusal.{when_done};
 ghost use Rattle.colour.specs.Colour.{within_of, good_conversion, good_samples, converted_of, quantise_of, luma_weights};
@@ -13,7 +15,7 @@ ghost use Rattle.colour.specs.Answer.{coloured_no, coloured_values, to_rgb_no};
 // gains are of values by the largest code of their depth. `luma_lift`, `chroma_cos` and `chroma_sin` are
 // 0, 1 and 0 where nothing is adjusted.
 #[repr(C)]
-#[derive(Drop)]
+#[derive(Clone, Copy)]
 pub struct Conversion {
     pub luma_offset: f32,
     pub luma_gain: f32,
@@ -26,20 +28,20 @@ pub struct Conversion {
     pub chroma_sin: f32,
 }
 
-#[derive(Drop)]
+#[derive(Clone, Copy)]
 pub struct Rgb {
     pub red: f32,
     pub green: f32,
     pub blue: f32,
 }
 
-#[derive(Drop)]
+#[derive(Clone, Copy)]
 pub enum Coloured {
     Value(Rgb),
     Refused(u8),
 }
 
-#[derive(Drop)]
+#[derive(Clone, Copy)]
 pub enum Primaries {
     Bt709,
     Bt2020,

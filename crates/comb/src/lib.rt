@@ -4,6 +4,8 @@
 // lent slice beside its numbers, rows are read as parts, and what is out of bounds is refused by number.
 //
 // Comb: how far each row stands out from the two beside it, summed over a picture.
+#![tactic(auto)]
+
 ghost use Rattle.std.specs.Prelude.{◌≡◌, ◌+◌, ◌*◌, ◌-◌, ◌<◌, ◌≤◌, ◌^◌, min, length, get_or, take, drop};
 ghost use Rattle.laws.specs.Refusal.{when_done};
 ghost use Rattle.laws.specs.Rows.{listed};
@@ -15,14 +17,14 @@ ghost use Rattle.comb.specs.declared.Kind.TheVariants.{Byte, Pair, Cut, Green};
 
 use plane::{Layout, Shape};
 
-#[derive(Drop)]
+#[derive(Clone, Copy)]
 pub enum Combed {
     Value(u64),
     Refused(u8),
 }
 
 // How a row holds the code of a column.
-#[derive(Drop)]
+#[derive(Clone, Copy)]
 enum Kind {
     // One byte.
     Byte,
@@ -36,7 +38,7 @@ enum Kind {
 
 // Bends added up, in two places: 256 columns of sixteen bits, lent beside this, and `total`. No column is
 // above `most`.
-#[derive(Drop)]
+#[derive(Clone, Copy)]
 struct Tally {
     total: u64,
     most: u32,

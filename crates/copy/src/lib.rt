@@ -1,4 +1,6 @@
 // Bytes copied from one part of memory to another, and parts of them.
+#![tactic(auto)]
+
 ghost use Rattle.std.specs.Prelude.{◌≡◌, ◌+◌, ◌≤◌, min, length, take, drop};
 ghost use Rattle.laws.specs.Rows.{over};
 

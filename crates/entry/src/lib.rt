@@ -1,5 +1,7 @@
 // Measured entries as a reel file lays them out (docs/RULES.md, "Reel file and listing"), and their
 // cadences from a fresh detector. The desk and the reel's reader stand on the same entry.
+#![tactic(auto)]
+
 ghost use Rattle.std.specs.Prelude.{◌≡◌, ◌+◌, ◌*◌, ◌<◌, ◌≤◌, length, get_or};
 ghost use Rattle.laws.specs.Refusal.{written};
 ghost use Rattle.laws.specs.Rows.{listed, over};
@@ -8,7 +10,7 @@ ghost use Rattle.entry.specs.Entry.{word_at, entry_of, good_entry, measured_in, 
 ghost use Rattle.entry.specs.Inner.{code_at, EntriesReady};
 
 // The numbers of an entry as they stand in the file.
-#[derive(Drop)]
+#[derive(Clone, Copy)]
 pub struct Entry {
     pub parity: u16,
     pub present: u16,

@@ -5,11 +5,13 @@
 // outputs stays behind.
 //
 // Which field of a frame is which, and the words for what is shown of a frame.
+#![tactic(auto)]
+
 ghost use Rattle.std.specs.Prelude.{◌≡◌};
 ghost use Rattle.field.specs.Field.{first_row_of, other_of, parity_named, cadence_number, first_field_of};
 
 // The two fields of a frame. The top one has the even rows, the bottom one the odd.
-#[derive(Drop)]
+#[derive(Clone, Copy)]
 pub enum Parity {
     Top,
     Bottom,
@@ -49,7 +51,7 @@ impl Parity {
 }
 
 // Which of the three frames at hand a field is taken from.
-#[derive(Drop)]
+#[derive(Clone, Copy)]
 pub enum Source {
     Previous,
     Current,
@@ -57,7 +59,7 @@ pub enum Source {
 }
 
 // What the detector finds of a frame. No flag of the stream says it.
-#[derive(Drop)]
+#[derive(Clone, Copy)]
 pub enum Cadence {
     None,
     // Both fields show one film picture: weave them.
@@ -83,13 +85,13 @@ impl Cadence {
 }
 
 // One of the two fields, or neither: `Option<Parity>` of the original.
-#[derive(Drop)]
+#[derive(Clone, Copy)]
 pub enum Chosen {
     Field(Parity),
     Neither,
 }
 
-#[derive(Drop)]
+#[derive(Clone, Copy)]
 pub struct Output {
     // The field that is shown; neither where the frame is shown whole.
     pub field: Chosen,
@@ -105,7 +107,7 @@ pub struct Output {
 }
 
 // How a picture was coded: both fields together, or one alone.
-#[derive(Drop)]
+#[derive(Clone, Copy)]
 pub enum Structure {
     Frame,
     Top,

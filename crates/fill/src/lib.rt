@@ -7,6 +7,8 @@
 // A plane of samples, or a part of one, fast. A line is made in tiles of 512 columns. Each source row that
 // a tile needs is first expanded to floats, with six more columns on each side that hold what the plane's
 // sampler gives there. The loops over a tile then read with neither a clamp nor a test, and are vectorised.
+#![tactic(auto)]
+
 ghost use Rattle.std.specs.Prelude.{◌≡◌, ℕ, ◌+◌, ◌*◌, ◌-◌, ◌/◌, ◌<◌, ◌≤◌, ◌^◌, min, length, ℤ, pos, nat_abs, ◌+ℤ◌};
 ghost use Rattle.std.proofs.Math.IntN.{sub_ℕ};
 ghost use Rattle.std.specs.Float.{binary32};
@@ -22,7 +24,7 @@ ghost use Rattle.fill.specs.Rows.{RowOf, Around, Trio, Motion, Under, along_of};
 ghost use Rattle.fill.specs.Lines.{Lent, AllLent, Tiled, stored_value, better_in, Tries, Picks, kept_of, Moving, tile_of, sample_tile};
 
 // The samples of a part of a plane: `width` columns from `left` on, of `height` rows from `top` on.
-#[derive(Drop)]
+#[derive(Clone, Copy)]
 pub struct Place {
     pub top: u16,
     pub height: u16,
@@ -297,7 +299,7 @@ fn far(rows: &[f32], start: usize, x: usize, t: usize) -> f32
 
 // The best slant so far: its score, and the sums along it one row and three rows off. Carrying the sums
 // instead of the slant spares a look-up at a place that only the run decides, which no vector has.
-#[derive(Drop)]
+#[derive(Clone, Copy)]
 struct Pick {
     score: f32,
     near: f32,

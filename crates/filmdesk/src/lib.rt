@@ -2,6 +2,8 @@
 // in its manner: numbers and byte slices, the answer a number of docs/RULES.md, "What the desk gets
 // back", a value to a lent place, which a refusal leaves as it was. Between calls the host keeps the
 // detector in 96 bytes that it lends.
+#![tactic(auto)]
+
 ghost use Rattle.std.specs.Prelude.{◌≡◌, ◌≤◌, [], ◌∷◌, ◌++◌, length, replicate};
 ghost use Rattle.laws.specs.Refusal.{lowest, when_done, written};
 ghost use Rattle.laws.specs.Rows.{over};

@@ -4,6 +4,8 @@
 // lent slice beside its shape, closures are functions, and what is out of bounds is refused by number.
 //
 // The rows a field lacks, sample by sample.
+#![tactic(auto)]
+
 ghost use Rattle.std.specs.Prelude.{◌≡◌, ◌≤◌, nat_abs, length};
 ghost use Rattle.laws.specs.Refusal.{when_done};
 ghost use Rattle.plane.specs.Plane.{value_of};
@@ -16,7 +18,7 @@ ghost use Rattle.filter.specs.Held.{Room, step, seen};
 ghost use Rattle.filter.specs.Answer.{edged_no, edged_values, edge_no, sample_no};
 
 // How missing rows are made. Weave makes none: it takes both fields as they stand.
-#[derive(Drop)]
+#[derive(Clone, Copy)]
 pub enum Quality {
     Weave,
     Bob,
@@ -25,14 +27,14 @@ pub enum Quality {
 }
 
 // The rows that are shown of `cur`, 0 or 1, and those that Weave takes from `before`, 0 or 1, or 2 for none.
-#[derive(Drop)]
+#[derive(Clone, Copy)]
 pub struct Rows {
     pub first: u32,
     pub mate: u32,
 }
 
 // What a plane is made by. The three shapes are those of the planes that it is made from.
-#[derive(Drop)]
+#[derive(Clone, Copy)]
 pub struct Making {
     pub quality: Quality,
     pub rows: Rows,
@@ -95,7 +97,7 @@ impl Rows {
     }
 }
 
-#[derive(Drop)]
+#[derive(Clone, Copy)]
 pub enum Edged {
     Slant(i32),
     Refused(u8),
@@ -195,7 +197,7 @@ fn in_motion(
 // ---- Edge: a slant j of -2 to 2 is held as j + 2, and so is the k of a score. So the column x + k + j is
 // held as x + k + j - 4, and x + k - j as it stands.
 
-#[derive(Drop)]
+#[derive(Clone, Copy)]
 struct Best {
     slant: u32,
     score: f32,

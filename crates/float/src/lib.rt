@@ -1,6 +1,8 @@
 // Rust's methods on `f32` that the original uses, as functions: abs, min, max, clamp and the cut to a
 // byte. Each is equal to its definition in specs/Float.antt at every float. The laws by which later
 // crates know that a value is finite and how large it is stand in proofs/.
+#![tactic(auto)]
+
 ghost use Rattle.std.specs.Prelude.{◌≡◌, pos};
 ghost use Rattle.std.specs.Float.{binary32};
 ghost use Rattle.std.specs.Float.Ieee.{of_int, to_unsigned};

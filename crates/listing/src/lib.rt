@@ -1,5 +1,7 @@
 // What a reel file says, as text (docs/RULES.md, "Reel file and listing"), and the program `cadence` a
 // step at a time.
+#![tactic(auto)]
+
 ghost use Rattle.std.specs.Prelude.{◌≡◌, ◌++◌, ◌+◌, ◌≤◌, max, leb, length};
 ghost use Rattle.listing.specs.Listing.{decimal_of, cadence_word, lock_end, text_of, put_line, line_ends};
 ghost use Rattle.listing.specs.Steps.{reel_machine, start_lister, came_lister, program_of, ask_from, step_from};
@@ -133,7 +135,7 @@ pub fn write(out: &mut [u8], at: usize, said: Said) -> usize
 // ---- the program, a step at a time
 
 // What the program `cadence` has between two steps, beside its buffer, its store and its page.
-#[derive(Drop)]
+#[derive(Clone, Copy)]
 pub struct Lister {
     pub reel: Reel,
     // What of the buffer is held.
@@ -145,7 +147,7 @@ pub struct Lister {
 }
 
 // What a step leaves, and what has to be done before the next one.
-#[derive(Drop)]
+#[derive(Clone, Copy)]
 pub struct Step {
     pub lister: Lister,
     pub ask: Ask,

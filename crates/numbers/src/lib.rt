@@ -1,6 +1,8 @@
 // The host's numbers, as every archive takes them. They are wider than the places of the code, so that
 // none can wrap into the bounds. One too large for its place counts as the largest there, which is out
 // of bounds too, so that no number of a call changes by it.
+#![tactic(auto)]
+
 ghost use Rattle.std.specs.Prelude.{◌≡◌, min};
 ghost use Rattle.numbers.specs.Numbers.{layout_named, shape_named, grid_named};
 ghost use Rattle.numbers.specs.Inner.{cut, cut_grid};
@@ -8,7 +10,7 @@ ghost use Rattle.numbers.specs.Inner.{cut, cut_grid};
 // A plane's shape as the host gives it. The numbers are wider than a shape's own, so that none can wrap
 // into the bounds; a call refuses those outside.
 #[repr(C)]
-#[derive(Drop)]
+#[derive(Clone, Copy)]
 pub struct PlaneNumbers {
     // Samples of one component in a row.
     pub width: u32,
@@ -25,7 +27,7 @@ pub struct PlaneNumbers {
 // The shape of a plane whose codes are not shifted: of a picture, or of a field, whose rows are
 // its lines. The numbers are wider than a shape's own too.
 #[repr(C)]
-#[derive(Drop)]
+#[derive(Clone, Copy)]
 pub struct GridNumbers {
     // Samples in a row.
     pub width: u32,

@@ -1,5 +1,7 @@
 // Whole numbers in lent bytes, eight bytes each, low byte first: how the desk keeps a state between
 // calls.
+#![tactic(auto)]
+
 ghost use Rattle.std.specs.Prelude.{◌≡◌, ◌%◌, ◌<◌, ◌^◌, length, get_or};
 ghost use Rattle.laws.specs.Refusal.{written};
 ghost use Rattle.laws.specs.Rows.{over};

@@ -1,12 +1,14 @@
 // What a program needs that reads a file by units and writes pages: what it holds of the file in a lent
 // buffer, how that is moved to the front and a unit is cut off, and what has to be done next. It knows
 // nothing of what a unit means.
+#![tactic(auto)]
+
 ghost use Rattle.std.specs.Prelude.{◌≡◌, ◌+◌, ◌-◌, ◌≤◌, min, leb, length, take, drop};
 ghost use Rattle.laws.specs.Rows.{over};
 ghost use Rattle.pages.specs.Pages.{nothing_held, held_of, front_of, came_of, without_of, ask_of};
 
 // What was read and not yet used lies from one place of the buffer up to another.
-#[derive(Drop)]
+#[derive(Clone, Copy)]
 pub struct Held {
     pub from: usize,
     pub to: usize,
@@ -14,7 +16,7 @@ pub struct Held {
 
 // What has to be done next: a unit can be read; more has to come into the buffer from a place on; so
 // much of the page has to be written out; or nothing is left to do.
-#[derive(Drop)]
+#[derive(Clone, Copy)]
 pub enum Ask {
     Unit,
     Read(usize),

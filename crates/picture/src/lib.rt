@@ -5,6 +5,8 @@
 // conversion, what is out of bounds is refused by number, and rows are made several at a time.
 //
 // A picture in red, green, blue and alpha, from three frames of three planes.
+#![tactic(auto)]
+
 ghost use Rattle.std.specs.Prelude.{◌≡◌, ◌+◌, ◌*◌, ◌/◌, ◌%◌, ◌≤◌, ◌<◌, length, take, drop};
 ghost use Rattle.laws.specs.Rows.{laid, over};
 ghost use Rattle.plane.specs.Plane.{half};
@@ -13,7 +15,7 @@ ghost use Rattle.picture.specs.Inner.{making_of, recipe_for, serving_in, serving
 
 // What is asked for: the picture of which `output` says what is shown. `current` is the frame itself, and
 // `previous` and `next` are those at its sides.
-#[derive(Drop)]
+#[derive(Clone, Copy)]
 pub struct Asked {
     pub quality: filter::Quality,
     pub output: field::Output,
@@ -123,7 +125,7 @@ fn paint_rows(
 // ---- tiles of 512 columns and eight rows, so that the places for their samples stay small
 
 // What a picture is made by, plane by plane, and the colours of its samples.
-#[derive(Drop)]
+#[derive(Clone, Copy)]
 struct Recipe {
     luma: filter::Making,
     cb: filter::Making,

@@ -1,5 +1,7 @@
 // What the capture desk's Rust host calls of pictures, beside crate `desk` and in its manner: numbers
 // and byte slices, the answer a number of docs/RULES.md, "What the desk gets back".
+#![tactic(auto)]
+
 ghost use Rattle.std.specs.Prelude.{◌≡◌};
 ghost use Rattle.picturedesk.specs.Inner.{cut_planes, cut_asked};
 ghost use Rattle.picturedesk.specs.Pictures.{chosen_named, source_named, output_named, planes_named, layouts_named, output_good, all_named, asked_named, named_no, named_out};
@@ -9,7 +11,7 @@ use numbers::PlaneNumbers;
 // The shapes of a frame's three planes. Where two components share a plane, both name it, and the same
 // bytes are lent twice.
 #[repr(C)]
-#[derive(Drop)]
+#[derive(Clone, Copy)]
 pub struct FrameNumbers {
     pub luma: PlaneNumbers,
     pub cb: PlaneNumbers,
@@ -18,7 +20,7 @@ pub struct FrameNumbers {
 
 // What is shown of three frames.
 #[repr(C)]
-#[derive(Drop)]
+#[derive(Clone, Copy)]
 pub struct OutputNumbers {
     // The field: 0 top, 1 bottom, 2 neither, which is Weave whatever the quality.
     pub field: u32,

@@ -6,6 +6,8 @@
 // A plane of samples: its shape and bounds, and what stands at a place. Narrow types make every place
 // of every shape a u64, and a read past the end gives 0, so the public functions below the two reads
 // take every input too.
+#![tactic(auto)]
+
 ghost use Rattle.std.specs.Prelude.{◌≡◌, ◌+◌, ◌*◌, ◌-◌, ◌/◌, ◌<◌, ◌≤◌, ◌^◌, min, max, get_or};
 ghost use Rattle.laws.specs.Refusal.{lowest};
 ghost use Rattle.float.specs.Bounds.{Unit};
@@ -14,7 +16,7 @@ ghost use Rattle.plane.specs.Coordinates.{in_reach, inside, held, parity_of, bia
 ghost use Rattle.plane.specs.Answer.{read_tests, GivesCode, GivesValue};
 
 // Which samples of its bytes a plane gives. Component, shift and samples per row follow from it.
-#[derive(Drop)]
+#[derive(Clone, Copy)]
 pub enum Layout {
     // One component, codes in the low bits.
     Planar,
@@ -26,7 +28,7 @@ pub enum Layout {
 }
 
 // The width is that of one component. Stride is in bytes.
-#[derive(Drop)]
+#[derive(Clone, Copy)]
 pub struct Shape {
     pub width: u16,
     pub height: u16,
@@ -36,7 +38,7 @@ pub struct Shape {
 }
 
 // The shape of a plane whose codes are not shifted, with nothing beside them.
-#[derive(Drop)]
+#[derive(Clone, Copy)]
 pub struct Grid {
     pub width: u16,
     pub height: u16,
@@ -45,20 +47,20 @@ pub struct Grid {
 }
 
 // The three planes of a frame.
-#[derive(Drop)]
+#[derive(Clone, Copy)]
 pub struct Planes {
     pub luma: Shape,
     pub cb: Shape,
     pub cr: Shape,
 }
 
-#[derive(Drop)]
+#[derive(Clone, Copy)]
 pub enum Coded {
     Value(u16),
     Refused(u8),
 }
 
-#[derive(Drop)]
+#[derive(Clone, Copy)]
 pub enum Sampled {
     Value(f32),
     Refused(u8),

@@ -6,6 +6,8 @@
 //
 // The 2:3 pulldown in a sequence of frames, by what was seen of each: the symbol that block counts give,
 // and the lock on the pattern of five frames. Of pictures, stores and parities nothing is known here.
+#![tactic(auto)]
+
 ghost use Rattle.std.specs.Prelude.{◌≡◌, cond, ℕ, ◌+◌, ◌-◌, ◌%◌, ◌<◌, ◌≤◌, min, max, List, ltb, length};
 ghost use Rattle.laws.specs.Refusal.{when_done, written};
 ghost use Rattle.pulldown.specs.Symbols.{symbol_of, symbol_number, same_symbol, one_if};
@@ -43,7 +45,7 @@ pub const MOST_FRAMES: u64 = 4000000000;
 const MOST_AHEAD: u64 = 1000000;
 
 // What is seen of a frame, each of its fields held against the same field of the frame before.
-#[derive(Drop)]
+#[derive(Clone, Copy)]
 pub enum Symbol {
     Still,
     Moved,
@@ -53,7 +55,7 @@ pub enum Symbol {
 }
 
 // A frame that cannot be compared with one before it has no symbol.
-#[derive(Drop)]
+#[derive(Clone, Copy)]
 pub enum Seen {
     NotComparable,
     Symbol(Symbol),
@@ -78,7 +80,7 @@ const BECOMES: [field::Cadence; 5] = [
 ];
 
 // A lock without its ring.
-#[derive(Drop)]
+#[derive(Clone, Copy)]
 pub struct Course {
     // The place in the ring that the next symbol takes.
     pub next: usize,
@@ -94,26 +96,26 @@ pub struct Course {
     pub stills: usize,
 }
 
-#[derive(Drop)]
+#[derive(Clone, Copy)]
 pub struct Lock {
     // The last symbols as numbers.
     pub ring: [u8; 15],
     pub course: Course,
 }
 
-#[derive(Drop)]
+#[derive(Clone, Copy)]
 pub enum Answer {
     Gave(field::Cadence),
     Refused(u8),
 }
 
-#[derive(Drop)]
+#[derive(Clone, Copy)]
 pub struct Pushed {
     pub lock: Lock,
     pub answer: Answer,
 }
 
-#[derive(Drop)]
+#[derive(Clone, Copy)]
 pub struct Stepped {
     pub course: Course,
     pub answer: Answer,

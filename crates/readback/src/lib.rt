@@ -6,6 +6,8 @@
 //
 // A frame read back from a device: padding is dropped, words in the high bits are brought down, and
 // chroma that shares a plane is separated.
+#![tactic(auto)]
+
 ghost use Rattle.std.specs.Prelude.{◌≡◌, cond, ◌&&◌, ◌+◌, ◌*◌, ◌/◌, ◌^◌, ◌<◌, ◌≤◌, leb, length, get_or};
 ghost use Rattle.laws.specs.Refusal.{when_done};
 ghost use Rattle.laws.specs.Rows.{laid, over};
@@ -20,7 +22,7 @@ use plane::{Layout, Shape};
 
 // What was read back: how many planes, the frame's size and depth, and each plane's bytes from one row
 // to the next. A plane beyond the count is not looked at.
-#[derive(Drop)]
+#[derive(Clone, Copy)]
 pub struct Readback {
     pub planes: u8,
     pub width: u16,
@@ -32,7 +34,7 @@ pub struct Readback {
 }
 
 // The bytes that the output of each component needs.
-#[derive(Drop)]
+#[derive(Clone, Copy)]
 pub struct Sizes {
     pub luma: usize,
     pub cb: usize,
@@ -40,14 +42,14 @@ pub struct Sizes {
 }
 
 // What `readback_sizes` tells: the sizes, or the number of the refusal.
-#[derive(Drop)]
+#[derive(Clone, Copy)]
 pub enum Needed {
     Value(Sizes),
     Refused(u8),
 }
 
 // How a row holds the samples of a component.
-#[derive(Drop)]
+#[derive(Clone, Copy)]
 enum Kind {
     // One byte each, from end to end.
     Byte,

@@ -1,5 +1,7 @@
 // The reel file (docs/RULES.md, "Reel file and listing"), read a unit at a time: each count, the shape,
 // each entry and picture, and the end. A unit says at most one thing, and nothing is written here.
+#![tactic(auto)]
+
 ghost use Rattle.std.specs.Prelude.{◌≡◌, [], ◌∷◌, ◌<◌, leb};
 ghost use Rattle.laws.specs.Refusal.{lowest};
 ghost use Rattle.plane.specs.Plane.{good_shape, grid_shape};
@@ -17,7 +19,7 @@ use refusal::{OUTSIDE, SHORT_INPUT};
 use telecine::{Detector, Pushed};
 
 // What the file's pictures look like. Where no shape is given, the rest says nothing.
-#[derive(Drop)]
+#[derive(Clone, Copy)]
 pub struct Pictured {
     pub given: bool,
     pub shape: Grid,
@@ -26,7 +28,7 @@ pub struct Pictured {
 }
 
 // How many frames had each cadence.
-#[derive(Drop)]
+#[derive(Clone, Copy)]
 pub struct Tally {
     pub whole: u64,
     pub drop: u64,
@@ -35,7 +37,7 @@ pub struct Tally {
 }
 
 // What is read next: after the last entry the count of pictures, after the last picture the end.
-#[derive(Drop)]
+#[derive(Clone, Copy)]
 pub enum Stage {
     ShapeCount,
     ShapeNumbers,
@@ -45,7 +47,7 @@ pub enum Stage {
     Done,
 }
 
-#[derive(Drop)]
+#[derive(Clone, Copy)]
 pub struct Reel {
     pub stage: Stage,
     pub pictured: Pictured,
@@ -55,7 +57,7 @@ pub struct Reel {
 
 // What a unit leads to: nothing; a frame, with its number, its cadence, and whether there is a lock;
 // the totals; or a fault.
-#[derive(Drop)]
+#[derive(Clone, Copy)]
 pub enum Said {
     Quiet,
     Frame(u64, Cadence, bool),
@@ -63,7 +65,7 @@ pub enum Said {
     Fault(u8),
 }
 
-#[derive(Drop)]
+#[derive(Clone, Copy)]
 pub struct Next {
     pub reel: Reel,
     pub said: Said,

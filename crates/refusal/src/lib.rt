@@ -1,5 +1,7 @@
 // The numbers that a call gives back, each with the words of docs/RULES.md ("What the desk gets back"), and
 // the lowest of those that apply.
+#![tactic(auto)]
+
 ghost use Rattle.std.specs.Prelude.{◌≡◌, cond};
 
 // Done.

@@ -5,6 +5,8 @@
 // list that is cut or names no call ends the run with a line that says so. Records are counted from 1. The
 // last line is the count of a list that was read to its end; of a list that is empty or broken it says that
 // nothing is shown.
+#![tactic(auto)]
+
 mod calls;
 mod names;
 
@@ -32,7 +34,7 @@ fn hold(held: Held, buffer: &mut [u8], n: usize) -> Held {
 
 // What was read: 0 the end, 1 a record, 2 a part of one, 3 a record of a size that none has. `size` is
 // what a record was to have, and `bytes` what is held, the record in front.
-#[derive(Drop)]
+#[derive(Clone, Copy)]
 struct Taken {
     kind: u8,
     held: Held,

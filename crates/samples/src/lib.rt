@@ -5,12 +5,14 @@
 //
 // A lent plane kept together with its shape, for a viewer that asks for one sample after another. A
 // function that has such a struct is proved by hand, so each is thin: the work is that of `plane`.
+#![tactic(auto)]
+
 ghost use Rattle.std.specs.Prelude.{◌≡◌};
 ghost use Rattle.plane.specs.Answer.{GivesCode, GivesValue};
 
 use plane::{Coded, Sampled, Shape};
 
-#[derive(Drop)]
+#[derive(Clone, Copy)]
 pub struct Samples<'a> {
     pub plane: &'a [u8],
     pub shape: Shape,

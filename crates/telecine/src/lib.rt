@@ -6,6 +6,8 @@
 // cannot be taken is refused by number.
 //
 // The detector of 2:3 pulldown: pictures with a lent store, counts that were measured elsewhere, resets.
+#![tactic(auto)]
+
 ghost use Rattle.std.specs.Prelude.{◌≡◌, ◌*◌, length};
 ghost use Rattle.laws.specs.Refusal.{when_done};
 ghost use Rattle.field.specs.Field.{first_row_of};
@@ -21,7 +23,7 @@ use plane::Grid;
 use pulldown::{Answer, Course, Lock, Seen};
 
 // The shape of the frame that the store keeps. Where none is held, the rest says nothing.
-#[derive(Drop)]
+#[derive(Clone, Copy)]
 pub struct Kept {
     pub held: bool,
     pub width: u16,
@@ -30,7 +32,7 @@ pub struct Kept {
     pub first: Parity,
 }
 
-#[derive(Drop)]
+#[derive(Clone, Copy)]
 pub struct Detector {
     pub lock: Lock,
     pub kept: Kept,
@@ -39,20 +41,20 @@ pub struct Detector {
 }
 
 // Counts of the leading field, then of the trailing. The trailing field's total is not looked at.
-#[derive(Drop)]
+#[derive(Clone, Copy)]
 pub enum Measured {
     Absent,
     Counts(Counts, Counts),
 }
 
-#[derive(Drop)]
+#[derive(Clone, Copy)]
 pub struct Pushed {
     pub detector: Detector,
     pub answer: Answer,
 }
 
 // What a frame leaves of the detector, apart from the ring and the kept frame, and its answer.
-#[derive(Drop)]
+#[derive(Clone, Copy)]
 pub struct Stepped {
     pub course: Course,
     pub last: Chosen,

@@ -5,6 +5,8 @@
 // and a single woven line was added.
 //
 // Two fields woven into one frame, line by line.
+#![tactic(auto)]
+
 ghost use Rattle.std.specs.Prelude.{◌≡◌, ◌++◌, ◌+◌, ◌≤◌, leb, length, take, drop};
 ghost use Rattle.laws.specs.Rows.{over};
 ghost use Rattle.plane.specs.Plane.{grid_shape, plane_bytes, agree, chroma_agrees};
@@ -14,7 +16,7 @@ ghost use Rattle.weave.specs.Claims.{Matched};
 use plane::Grid;
 
 // The three planes of a field; a row of a plane is a line of the field.
-#[derive(Drop)]
+#[derive(Clone, Copy)]
 pub struct Field {
     pub luma: Grid,
     pub cb: Grid,
@@ -22,7 +24,7 @@ pub struct Field {
 }
 
 // What is said of a stream's pictures.
-#[derive(Drop)]
+#[derive(Clone, Copy)]
 pub struct Format {
     pub width: u32,
     pub height: u32,

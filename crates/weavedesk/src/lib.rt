@@ -3,6 +3,8 @@
 // value to a lent place, which a refusal leaves as it was. Numbers are wider than a shape's own, so
 // that none can wrap into the bounds. Between calls the host keeps the weaver in 56 bytes that it
 // lends.
+#![tactic(auto)]
+
 ghost use Rattle.std.specs.Prelude.{◌≡◌, [], ◌∷◌, ◌≤◌, length};
 ghost use Rattle.laws.specs.Refusal.{written};
 ghost use Rattle.numbers.specs.Numbers.{grid_named};
@@ -21,7 +23,7 @@ use weaver::{Paired, Time, Weaver};
 
 // The three planes of a field, which has at most 2,176 lines.
 #[repr(C)]
-#[derive(Drop)]
+#[derive(Clone, Copy)]
 pub struct FieldNumbers {
     pub luma: GridNumbers,
     pub cb: GridNumbers,
@@ -30,7 +32,7 @@ pub struct FieldNumbers {
 
 // What is said of a stream's pictures. The last three are 0 or 1.
 #[repr(C)]
-#[derive(Drop)]
+#[derive(Clone, Copy)]
 pub struct FormatNumbers {
     pub width: u32,
     pub height: u32,
@@ -45,7 +47,7 @@ pub struct FormatNumbers {
 // What was read back: how many planes, the frame's size and depth, and each plane's bytes from one row
 // to the next.
 #[repr(C)]
-#[derive(Drop)]
+#[derive(Clone, Copy)]
 pub struct ReadbackNumbers {
     // 2 where the chroma components share a plane, or 3.
     pub planes: u32,

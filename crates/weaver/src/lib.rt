@@ -5,6 +5,8 @@
 // cannot be taken is refused by number.
 //
 // Fields in the order they come, paired into frames.
+#![tactic(auto)]
+
 ghost use Rattle.std.specs.Prelude.{◌≡◌, cond, ◌++◌, ◌+◌, ◌*◌, ◌≤◌, leb, length, take, drop};
 ghost use Rattle.laws.specs.Refusal.{lowest, when_done};
 ghost use Rattle.laws.specs.Rows.{over};
@@ -18,7 +20,7 @@ use plane::Grid;
 use weave::Field;
 
 // A field's time, if it has one.
-#[derive(Drop)]
+#[derive(Clone, Copy)]
 pub enum Time {
     Absent,
     At(i64),
@@ -26,7 +28,7 @@ pub enum Time {
 
 // The shape of the field that the store keeps, its parity and time. Where none is held, the rest says
 // nothing.
-#[derive(Drop)]
+#[derive(Clone, Copy)]
 pub struct Weaver {
     pub held: bool,
     pub width: u16,
@@ -36,7 +38,7 @@ pub struct Weaver {
     pub time: Time,
 }
 
-#[derive(Drop)]
+#[derive(Clone, Copy)]
 pub enum Paired {
     // The field was kept, and waits for its mate.
     Waits,
@@ -45,7 +47,7 @@ pub enum Paired {
     Refused(u8),
 }
 
-#[derive(Drop)]
+#[derive(Clone, Copy)]
 pub struct Pushed {
     pub weaver: Weaver,
     pub answer: Paired,
