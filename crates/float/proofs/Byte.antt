@@ -78,6 +78,9 @@ pub not_below_top : (x : Float) → T (signed false x) → lt x top_f ≡ false 
 unfolding lt to_unsigned of_bits
 not_below_top (inf false) p h = refl
 not_below_top (fin false m e) p h = full m e (omega (arith, ltb-false (m * up e * 1) (255 * 1 * down e) h))
+not_below_top nan p h = elim p [ ]
+not_below_top (inf true) p h = elim p [ ]
+not_below_top (fin true m e) p h = elim p [ ]
 
 above_top : (x : Float) → lt top_f x ≡ true → to_unsigned 8 x ≡ 255
 unfolding lt to_unsigned of_bits
@@ -92,6 +95,9 @@ pub below_top : (x : Float) → T (signed false x) → lt x top_f ≡ true → I
 unfolding lt of_bits
 below_top (inf false) p h = absurd (true≢false (sym h))
 below_top (fin false m e) p h = record { bound = omega (arith, ltb-true (m * up e * 1) (255 * 1 * down e) h) }
+below_top nan p h = elim p [ ]
+below_top (inf true) p h = elim p [ ]
+below_top (fin true m e) p h = elim p [ ]
 
 -- The cut stops at 0 and at 255 by itself, so a clamp to them before it changes nothing.
 pub cut_of_clamp : (x : Float) → to_unsigned 8 (clamp_of x zero_f top_f) ≡ to_unsigned 8 x
@@ -111,6 +117,9 @@ no_fraction (fin false zero (negsuc e)) t p h = absurd p
 no_fraction (fin false (suc m) (negsuc e)) t p h =
     let l : suc m < 16777216 = (held binary32 false m (negsuc e) t).0 in
     absurd (omega (arith, pow-succ' 2 e, pow_pos e, h))
+no_fraction nan t p h = elim p [ ]
+no_fraction (inf _) t p h = elim p [ ]
+no_fraction (fin true m _) t p h = elim p [ ]
 
 -- A fraction between two whole numbers from there on rounds to one of them.
 to_either : (a c n : ℕ) → 0 < c → n * c ≤ a → a ≤ suc n * c → 8388608 ≤ n → n < 16777216
@@ -146,6 +155,10 @@ whole_less (fin false m e) (fin false n d) p q v w h =
     ap (λ (k : ℕ). k * down e) (sym (mul-one (n * up d)) ∙ w.1) ∙ mul_right_comm q (down d) (down e) ∙ mul_assoc q (down e) (down d) ∙ mul_comm q u in
     rw (s, t, le-ltb (u * p) (u * q) (mul-le-mul_left u h))
     (round_same binary32 false (u * p - u * q) u (p - q) 1 (mul-pos (down_pos e) (down_pos d)) (pow_pos 0) (mul-one (u * p - u * q) ∙ sym (mul-sub u p q) ∙ mul_comm u (p - q)))
+whole_less nan y p q v w h = elim v [ ]
+whole_less (inf _) y p q v w h = elim v [ ]
+whole_less (fin false m e) nan p q v w h = elim w [ ]
+whole_less (fin false m e) (inf _) p q v w h = elim w [ ]
 
 -- ---- which of them it is
 -- The cut and the next number are around the value.
@@ -176,6 +189,9 @@ near x b =
         let g = around m e b in
         to_either (m * up e * 1 + 8388608 * down e) (down e * 1) (8388608 + to_unsigned 8 (fin false m e)) (mul-pos (down_pos e) (pow_pos 0)) (omega (arith, g.0)) (omega (arith, g.1))
         (omega arith) (omega (arith, to_unsigned-lt 8 (fin false m e)))
+    go nan b = elim b [ ]
+    go (inf _) b = elim b [ ]
+    go (fin true m e) b = elim b [ ]
 
 -- A value is below a whole number exactly where its cut is.
 below_whole : (x y : Float) (j : ℕ) → InByte x → HasValue y false j 1 → (lt x y ≡ true → to_unsigned 8 x < j) × (lt x y ≡ false → j < suc (to_unsigned 8 x))
@@ -192,6 +208,11 @@ below_whole x y j b v = go x y b.bound v
           λ h. lt_of_mul-lt-mul_right (down e) (lt_of_mul-lt-mul_right (down d)
               (lt_of_le_of_lt (le_trans (le_of_eq (sym w)) (ltb-false (m * up e * down d) (n * up d * down e) h)) (mul-lt-mul_of_pos_right g.1 (down_pos d)))),
         )
+    go nan _ b v = elim b [ ]
+    go (inf _) _ b v = elim b [ ]
+    go (fin false m e) nan b v = elim v [ ]
+    go (fin false m e) (inf _) b v = elim v [ ]
+    go (fin true m e) _ b v = elim b [ ]
 
 -- Where what is left is above the value it is the next number, and 1 less is the cut.
 pub whole_above : (x : Float) → InByte x → lt x (near_f x) ≡ true → sub binary32 (near_f x) one_f ≡ of_int binary32 (pos (to_unsigned 8 x))

@@ -64,12 +64,15 @@ at_least a b = go (ltb b a) (eqb a b) (ltb→lt b a) (eqb→eq a b)
     go : (x y : Bool) → (T x → b < a) → (T y → a ≡ b) → T (x || (y && true)) → b ≤ a
     go true y l e t = le_of_lt (l tt)
     go false true l e t = le_of_eq (sym (e tt))
+    go false false l e t = elim t [ ]
 
 both_none : (a b : ℕ) → T (eqb a b && eqb a 0) → (a ≡ 0) × (b ≡ 0)
 both_none a b = go (eqb a b) (eqb a 0) (eqb→eq a b) (eqb→eq a 0)
   where
     go : (x y : Bool) → (T x → a ≡ b) → (T y → a ≡ 0) → T (x && y) → (a ≡ 0) × (b ≡ 0)
     go true true d e t = (e tt, sym (d tt) ∙ e tt)
+    go false y d e t = elim t [ ]
+    go true false d e t = elim t [ ]
 
 -- ---- floats
 
@@ -79,6 +82,7 @@ lt_le a b = go (lt a b) (eq a b)
   where
     go : (x y : Bool) → T x → T (x || y)
     go true y t = tt
+    go false y t = elim t [ ]
 
 -- Nothing is below itself.
 pub lt_not_itself : (a : Float) → T (lt a a) → ⊥
@@ -87,6 +91,7 @@ lt_not_itself (inf true) t = t
 lt_not_itself (inf false) t = t
 lt_not_itself (fin false m e) t = omega (arith, ltb→lt (m * up e * down e) (m * up e * down e) t)
 lt_not_itself (fin true m e) t = omega (arith, ltb→lt (m * up e * down e) (m * up e * down e) t)
+lt_not_itself lib.Ieee.nan t = elim t [ ]
 
 -- a at most b, and b below c
 pub le_lt : (a b c : Float) → T (le a b) → T (lt b c) → T (lt a c)
@@ -121,6 +126,26 @@ le_lt (fin true m e) (fin true n d) (fin false k g) p q =
     (either (m * up e) (down e) (n * up d) (down d) (k * up g) (down g) (down_pos e) (down_pos g) (at_least _ _ p) (ltb→lt _ _ q))
 le_lt (fin true m e) (fin true n d) (fin true k g) p q =
     lt→ltb _ _ (below_most (m * up e) (down e) (n * up d) (down d) (k * up g) (down g) (down_pos e) (at_least _ _ p) (ltb→lt _ _ q))
+le_lt lib.Ieee.nan b c p q = elim p [ ]
+le_lt (inf false) lib.Ieee.nan c p q = elim p [ ]
+le_lt (inf false) (inf false) lib.Ieee.nan p q = elim q [ ]
+le_lt (inf false) (inf false) (fin u k g) p q = elim q [ ]
+le_lt (inf false) (inf true) c p q = elim p [ ]
+le_lt (inf false) (fin t n d) c p q = elim p [ ]
+le_lt (inf true) lib.Ieee.nan c p q = elim p [ ]
+le_lt (inf true) (inf false) lib.Ieee.nan p q = elim q [ ]
+le_lt (inf true) (inf false) (fin u k g) p q = elim q [ ]
+le_lt (inf true) (inf true) lib.Ieee.nan p q = elim q [ ]
+le_lt (inf true) (fin t n d) lib.Ieee.nan p q = elim q [ ]
+le_lt (inf true) (fin t n d) (inf true) p q = elim q [ ]
+le_lt (fin s m e) lib.Ieee.nan c p q = elim p [ ]
+le_lt (fin s m e) (inf false) lib.Ieee.nan p q = elim q [ ]
+le_lt (fin s m e) (inf false) (fin u k g) p q = elim q [ ]
+le_lt (fin s m e) (inf true) c p q = elim p [ ]
+le_lt (fin s m e) (fin t n d) lib.Ieee.nan p q = elim q [ ]
+le_lt (fin s m e) (fin t n d) (inf true) p q = elim q [ ]
+le_lt (fin false m e) (fin false n d) (fin true k g) p q = elim q [ ]
+le_lt (fin true m e) (fin false n d) (fin true k g) p q = elim q [ ]
 
 -- Of two finite values, the one that is not at most the other is above it.
 pub lt_of_not_le : (x y : Float) → T (finite x) → T (finite y) → le y x ≡ false → T (lt x y)

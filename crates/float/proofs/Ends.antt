@@ -53,3 +53,7 @@ ends_in_order (fin s m e) (fin false n d) p q h = less_more binary32 s (m * up e
 ends_in_order (fin s m e) (fin true n d) p q h =
     let z : n * up d * down e ≡ 0 = simp (minus_zero n d h.low, zero-mul) in
     rw z (unmoved binary32 s (m * up e * down d) (down e * down d) (mul-pos (down_pos e) (down_pos d)))
+ends_in_order lib.Ieee.nan m p q h = elim p [ ]
+ends_in_order (lib.Ieee.inf _) m p q h = elim p [ ]
+ends_in_order (fin s m e) lib.Ieee.nan p q h = elim q [ ]
+ends_in_order (fin s m e) (lib.Ieee.inf _) p q h = elim q [ ]

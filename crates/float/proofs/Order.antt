@@ -52,6 +52,15 @@ signs_le (inf true) (inf false) p q = tt
 signs_le (inf true) (fin false n d) p q = tt
 signs_le (fin true m e) (inf false) p q = tt
 signs_le (fin true m e) (fin false n d) p q = apart (m * up e * down d) (n * up d * down e)
+signs_le nan y p q = elim p [ ]
+signs_le (inf false) y p q = elim p [ ]
+signs_le (inf true) nan p q = elim q [ ]
+signs_le (inf true) (inf true) p q = elim q [ ]
+signs_le (inf true) (fin true n d) p q = elim q [ ]
+signs_le (fin false m e) y p q = elim p [ ]
+signs_le (fin true m e) nan p q = elim q [ ]
+signs_le (fin true m e) (inf true) p q = elim q [ ]
+signs_le (fin true m e) (fin true n d) p q = elim q [ ]
 
 -- ---- of one sign
 -- What `le` tests of two values with no minus sign.
@@ -61,6 +70,7 @@ at_most a b = go (ltb a b) (eqb a b) (ltb→lt a b) (eqb→eq a b)
     go : (x y : Bool) → (T x → a < b) → (T y → a ≡ b) → T (x || (y && true)) → a ≤ b
     go true y l e t = le_of_lt (l tt)
     go false true l e t = le_of_eq (e tt)
+    go false false l e t = elim t [ ]
 
 -- what it tests of the same two with a minus sign
 turn : (a b : ℕ) → T (ltb a b || (eqb a b && true)) → T (ltb a b || (eqb b a && true))
@@ -69,6 +79,7 @@ turn a b = go (ltb a b) (eqb a b) (eqb→eq a b)
     go : (x y : Bool) → (T y → a ≡ b) → T (x || (y && true)) → T (x || (eqb b a && true))
     go true y e t = tt
     go false true e t = and_i (eqb b a) true (eq→eqb (sym (e tt))) tt
+    go false false e t = elim t [ ]
 
 -- A minus sign turns the order round.
 pub neg_le : (x y : Float) → T (signed false x) → T (signed false y) → T (le x y) → T (le (neg y) (neg x))
@@ -76,6 +87,15 @@ unfolding le lt neg
 neg_le (inf false) (inf false) p q h = tt
 neg_le (fin false m e) (inf false) p q h = tt
 neg_le (fin false m e) (fin false n d) p q h = turn (m * up e * down d) (n * up d * down e) h
+neg_le nan y p q h = elim p [ ]
+neg_le (inf false) nan p q h = elim q [ ]
+neg_le (inf false) (inf true) p q h = elim q [ ]
+neg_le (inf false) (fin _ n d) p q h = elim h [ ]
+neg_le (inf true) y p q h = elim p [ ]
+neg_le (fin false m e) nan p q h = elim q [ ]
+neg_le (fin false m e) (inf true) p q h = elim q [ ]
+neg_le (fin false m e) (fin true n d) p q h = elim q [ ]
+neg_le (fin true m e) y p q h = elim p [ ]
 
 -- Of two finite values, the one that is not below the other is at least the other.
 pub le_of_not_lt : (x y : Float) → T (finite x) → T (finite y) → lt x y ≡ false → T (le y x)
@@ -86,6 +106,12 @@ le_of_not_lt (fin true m e) (fin true n d) p q h =
     neg_le (fin false m e) (fin false n d) tt tt
     (le_of_values (fin false m e) (fin false n d) (m * up e) (down e) (n * up d) (down d) (down_pos e) (down_pos d) (refl, refl) (refl, refl) (ltb-false (n * up d * down e) (m * up e * down d) h))
 le_of_not_lt (fin false m e) (fin true n d) p q h = signs_le (fin true n d) (fin false m e) tt tt
+le_of_not_lt nan y p q h = elim p [ ]
+le_of_not_lt (inf _) y p q h = elim p [ ]
+le_of_not_lt (fin false m e) nan p q h = elim q [ ]
+le_of_not_lt (fin false m e) (inf _) p q h = elim q [ ]
+le_of_not_lt (fin true m e) nan p q h = elim q [ ]
+le_of_not_lt (fin true m e) (inf _) p q h = elim q [ ]
 le_of_not_lt (fin true m e) (fin false n d) p q h = none (m * up e * down d) (n * up d * down e) (ltb-false 0 (m * up e * down d + n * up d * down e) h)
   where
     none : (a b : ℕ) → a + b ≤ 0 → T (eqb b a && eqb b 0)

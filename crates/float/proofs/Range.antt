@@ -30,6 +30,9 @@ not_negative_plus (inf false) p = record { low = tt }
 not_negative_plus (fin false m e) p = record {
   low = le_of_values zero_f (fin false m e) 0 1 (m * up e) (down e) (pow_pos 0) (down_pos e) (refl, refl) (refl, refl) (le_trans (le_of_eq (zero-mul (down e))) zero-le);
 }
+not_negative_plus nan p = elim p [ ]
+not_negative_plus (inf true) p = elim p [ ]
+not_negative_plus (fin true m e) p = elim p [ ]
 
 no_digits : (m : ℕ) (e : ℤ) (k : ℕ) → 0 < k → m * up e * k ≤ 0 → m ≡ 0
 no_digits m e k K h = elim (eq-zero-or-pos m) [ inl z ↦ z | inr l ↦ absurd (not-le_of_lt (mul-pos (mul-pos l (up_pos e)) K) h) ]
@@ -61,6 +64,8 @@ not_negative_whole n = not_negative_plus (round binary32 false n 1) (round_signe
 pub not_negative_abs : (x : Float) → T (finite x) → NotNegative (abs_of x)
 unfolding abs_of
 not_negative_abs (fin s m e) p = not_negative_plus (fin false m e) tt
+not_negative_abs nan p = elim p [ ]
+not_negative_abs (inf _) p = elim p [ ]
 
 -- A quotient of two values that are not negative, the divisor away from zero, is not negative.
 pub not_negative_div : {k : ℕ} {x y : Float} → NotNegative x → Away k y → NotNegative y → NotNegative (div binary32 x y)
@@ -79,6 +84,10 @@ not_negative_div {k} {x} {y} p a q = go x y p.low a.bound q.low
         let z : m * up e * down d ≡ 0 = simp (minus_zero m e p, zero-mul) in
         rw (div_round binary32 true m e false n d N, z, zero_round binary32 true c (mul-pos (mul-pos N (up_pos d)) (down_pos e)))
         (not_negative_minus 0 (pos 0) refl)
+    go x nan p a q = elim a [ ]
+    go x (inf _) p a q = elim a [ ]
+    go nan (fin false n d) p a q = elim p [ ]
+    go (inf true) (fin false n d) p a q = elim p [ ]
 
 neither : (a b : Bool) → (a || b) ≡ false → (a ≡ false) × (b ≡ false)
 neither true b h = absurd (true≢false h)
@@ -98,6 +107,10 @@ not_below (fin true m e) (fin false n d) q h g =
 not_below (fin true m e) (fin true n d) q h g =
     let z : n * up d * down e ≡ 0 = simp (minus_zero n d q, zero-mul) in
     not_negative_minus m e (no_digits m e (down d) (down_pos d) (omega (arith, ltb-false (n * up d * down e) (m * up e * down d) h)))
+not_below (inf true) nan q h g = elim q [ ]
+not_below (inf true) (inf true) q h g = elim q [ ]
+not_below (fin true m e) nan q h g = elim q [ ]
+not_below (fin true m e) (inf true) q h g = elim q [ ]
 
 -- The greater of any value, a NaN among them, and one that is not negative, as 0, is not negative.
 pub not_negative_max : {y : Float} (x : Float) → NotNegative y → NotNegative (max_of x y)
@@ -141,6 +154,10 @@ at_most_one (fin false m e) (fin false a b) n d v w h D =
     let less : m * up e * down b ≤ c = transfer (m * up e) (a * up b) (down e) (down b) n d 1 1 (pow_pos 0) (pow_pos 0) v.1 w.1 (omega arith) in
     rw (div_round binary32 false m e false a b A, ← one_rounded)
     (round_mono binary32 (m * up e * down b) c 1 1 (mul-pos (mul-pos A (up_pos b)) (down_pos e)) (pow_pos 0) (omega arith))
+at_most_one nan y n d v w h D = elim v [ ]
+at_most_one (inf _) y n d v w h D = elim v [ ]
+at_most_one (fin false m e) nan n d v w h D = elim w [ ]
+at_most_one (fin false m e) (inf _) n d v w h D = elim w [ ]
 
 -- A whole number by one that is no smaller lies from 0 to 1: a sample's code by the largest code.
 pub unit_whole_quotient : (n d : ℕ) → n ≤ d → 0 < d → d ≤ 2 ^ 24 → Unit (div binary32 (of_int binary32 (pos n)) (of_int binary32 (pos d)))
@@ -158,6 +175,8 @@ by_itself (fin false m e) d v D =
     div_round binary32 false m e false m e M
     ∙ round_same binary32 false c c 1 1 (mul-pos (mul-pos M (up_pos e)) (down_pos e)) (pow_pos 0) (mul_comm c 1)
     ∙ one_rounded
+by_itself nan d v D = elim v [ ]
+by_itself (inf _) d v D = elim v [ ]
 
 -- A whole number by itself is 1.
 pub whole_by_itself : (d : ℕ) → 0 < d → d ≤ 2 ^ 24 → div binary32 (of_int binary32 (pos d)) (of_int binary32 (pos d)) ≡ one_f
@@ -174,3 +193,4 @@ unit_small {x} u = go x u.low u.high
     go (inf false) p q = absurd q
     go (fin false m e) p q = record { bound = omega (arith, at_most (m * up e * 1) (1 * 1 * down e) q) }
     go (fin true m e) p q = record { bound = le_trans (le_of_eq (simp (minus_zero m e p, zero-mul))) zero-le }
+    go nan p q = elim p [ ]

@@ -80,6 +80,7 @@ zero_units f s k = go (ltb (0 * 2 ^ k) (2 ^ (low f + suc (emax f)))) (lt→ltb (
   where
     go : (b : Bool) → T b → cond b (fin s 0 (pos 0)) (inf s) ≡ fin s 0 (pos 0)
     go true t = refl
+    go false t = elim t [ ]
 
 -- 0 / c rounds to the zero of its sign.
 pub zero_round : (f : Format) (s : Bool) (c : ℕ) → 0 < c → round f s 0 c ≡ fin s 0 (pos 0)
@@ -133,6 +134,8 @@ same_bits f (fin t n d) s m e v =
     mul_right_comm (n * up d) l (down e) ∙ ap (λ (x : ℕ). x * l) v.1 ∙ mul_right_comm (m * up e) (down d) l in
     let same : n * up d * l / down d ≡ m * up e * l / down e = div_same (n * up d * l) (down d) (m * up e * l) (down e) (down_pos d) (down_pos e) cross in
     rw (v.0, same)
+same_bits f lib.Ieee.nan s m e v = elim v [ ]
+same_bits f (inf _) s m e v = elim v [ ]
 
 -- A value that the format holds, as a fraction, rounds to itself.
 pub round_back : (f : Format) (s : Bool) (m : ℕ) (e : ℤ) → T (fits f (fin s m e)) → round f s (m * up e) (down e) ≡ fin s m e

@@ -48,6 +48,8 @@ small_value k l g s (fin t m e) v h = record {
       (le_trans (le_of_eq v.1) (le_trans (mul-le-mul_right (down e) h) (le_of_eq (simp (pow-add, mul_assoc, mul_comm, mul_left_comm)))))
       (pow_pos l);
 }
+small_value k l g s lib.Ieee.nan v h = elim v [ ]
+small_value k l g s (lib.Ieee.inf _) v h = elim v [ ]
 
 beyond : (k l m : ℕ) → k ≤ m → k + l < l + suc m
 beyond k l m h = omega arith
@@ -97,6 +99,8 @@ small_neg {k} {x} p = go x p.bound
   where
     go : (x : Float) → AtMost k x → Small k (neg x)
     go (fin s m e) a = record { bound = a }
+    go lib.Ieee.nan a = elim a [ ]
+    go (lib.Ieee.inf _) a = elim a [ ]
 
 -- The value without its sign is as large.
 pub small_abs : {k : ℕ} {x : Float} → Small k x → Small k (abs_of x)
@@ -105,6 +109,8 @@ small_abs {k} {x} p = go x p.bound
   where
     go : (x : Float) → AtMost k x → Small k (abs_of x)
     go (fin s m e) a = record { bound = a }
+    go lib.Ieee.nan a = elim a [ ]
+    go (lib.Ieee.inf _) a = elim a [ ]
 
 -- ---- sums
 double : (k c : ℕ) → 2 ^ suc k * c ≡ 2 ^ k * c + 2 ^ k * c
@@ -131,6 +137,10 @@ small_add {k} {x} {y} p q r = go x y p.bound q.bound
         (le_trans (mul-le-mul_right (down d) a) (le_of_eq (simp (mul_assoc, mul_comm, mul_left_comm))))
         (le_trans (mul-le-mul_right (down e) b) (le_of_eq (simp (mul_assoc, mul_comm, mul_left_comm))))
         r
+    go lib.Ieee.nan _ a b = elim a [ ]
+    go (lib.Ieee.inf _) _ a b = elim a [ ]
+    go (fin s m e) lib.Ieee.nan a b = elim b [ ]
+    go (fin s m e) (lib.Ieee.inf _) a b = elim b [ ]
 
 -- So is their difference.
 pub small_sub : {k : ℕ} {x y : Float} → Small k x → Small k y → T (ltb k 127) → Small (suc k) (sub binary32 x y)
@@ -148,6 +158,10 @@ small_mul {j} {k} {x} {y} p q r = go x y p.bound q.bound
         small_round binary32 (unlike s t) (m * up e * (n * up d)) (down e * down d) (mul-pos (down_pos e) (down_pos d))
         (le_trans (mul-le-mul a b) (le_of_eq (simp (pow-add, mul_assoc, mul_comm, mul_left_comm))))
         r
+    go lib.Ieee.nan _ a b = elim a [ ]
+    go (lib.Ieee.inf _) _ a b = elim a [ ]
+    go (fin s m e) lib.Ieee.nan a b = elim b [ ]
+    go (fin s m e) (lib.Ieee.inf _) a b = elim b [ ]
 
 -- What is at least 2 ^ -k in size is not zero.
 pub away_digits : (k : ℕ) (s : Bool) (n : ℕ) (d : ℤ) → AtLeast k (fin s n d) → 0 < n
@@ -167,6 +181,10 @@ small_div {j} {k} {x} {y} p q r = go x y p.bound q.bound
         (small_round binary32 (unlike s t) (m * up e * down d) (n * up d * down e) (mul-pos (mul-pos N (up_pos d)) (down_pos e))
         (le_trans (mul-le-mul a b) (le_of_eq (simp (pow-add, mul_assoc, mul_comm, mul_left_comm))))
         r)
+    go lib.Ieee.nan _ a b = elim a [ ]
+    go (lib.Ieee.inf _) _ a b = elim a [ ]
+    go (fin s m e) lib.Ieee.nan a b = elim b [ ]
+    go (fin s m e) (lib.Ieee.inf _) a b = elim b [ ]
 
 -- ---- whole numbers
 -- A whole number up to 2 ^ k is at most 2 ^ k as a float, rounded or not.
@@ -181,6 +199,8 @@ away_whole n N h = go (round binary32 false n 1) (round_whole binary32 false n h
   where
     go : (x : Float) → HasValue x false n 1 → Away 0 x
     go (fin t m e) v = record { bound = le_trans (le-mul_of_pos_right (down e) N) (le_of_eq (mul_comm (down e) n ∙ sym v.1 ∙ mul_comm (m * up e) 1)) }
+    go lib.Ieee.nan v = elim v [ ]
+    go (lib.Ieee.inf _) v = elim v [ ]
 
 -- 0 and 1 are at most 1.
 pub small_zero : Small 0 zero_f
@@ -198,6 +218,8 @@ small_more {j} k {x} p t = go x p.bound
   where
     go : (x : Float) → AtMost j x → Small k x
     go (fin s m e) a = record { bound = le_trans a (mul-le-mul_right (down e) (pow_mono (leb→le j k t))) }
+    go lib.Ieee.nan a = elim a [ ]
+    go (lib.Ieee.inf _) a = elim a [ ]
 
 -- What has a bound is neither a NaN nor an infinity.
 pub small_finite : {k : ℕ} {x : Float} → Small k x → T (finite x)
@@ -205,3 +227,5 @@ small_finite {k} {x} p = go x p.bound
   where
     go : (x : Float) → AtMost k x → T (finite x)
     go (fin s m e) a = tt
+    go lib.Ieee.nan a = elim a [ ]
+    go (lib.Ieee.inf _) a = elim a [ ]

@@ -10,8 +10,7 @@ use lib.Ieee.{Float, nan, inf, fin, binary32, up, down, lt, sub, sum, neg, fits,
 use lib.Ieee.Fits.{up_pos, neg-fits}
 use Rattle.float.specs.Float.{zero_f, abs_of}
 use Rattle.float.proofs.Rounded.{round_back}
-use Rattle.float.proofs.abs.Statement.{statement}
-use Rattle.float.proofs.abs.Tie as tie
+use Rattle.float.proofs.abs.Goals as goal
 
 above_zero : (x : Float) → lt zero_f x ≡ true → x ≡ abs_of x
 unfolding abs_of lt of_bits
@@ -33,11 +32,8 @@ not-above (fin false (suc m) e) t h =
     let q : suc m * up e ≤ 0 = simp (zero-mul, mul-one) at (ltb-false (0 * 1 * down e) (suc m * up e * 1) h) in
     absurd (omega arith)
 
-returns : tie.Need-returns
-returns c = above_zero c.before.args.x c.if1.true
+pub returns-then-x : goal.returns-then-x
+returns-then-x c = above_zero c.args.x c.if-x.true
 
-returns-2 : tie.Need-returns-2
-returns-2 c = not-above c.before.args.x (subst T (sym c.before.well-formed.0.1) tt) c.if1.false
-
-pub abs-spec : {M : Type 1} → statement M
-abs-spec = tie.close (tie.spec returns returns-2)
+pub returns-else-x : goal.returns-else-x
+returns-else-x c = not-above c.args.x (subst T (sym c.well_formed.0.1) tt) c.if-x.false
