@@ -1,0 +1,5 @@
+use borrow.Author.Rules.{rules}
+use Rattle.plane.proofs.plane_bytes.Goals as goal
+
+pub returns : goal.returns
+returns c = cc

@@ -1,0 +1,34 @@
+use mathlib.Core.Path.{◌≡◌, sym, subst, ◌∙◌}
+use mathlib.Core.List.{List}
+use Prim.Native.Nat.{ℕ, ◌^◌}
+use native.Mathlib.Omega.{arith}
+use lib.Dec.{le→leb}
+use lib.IntN.{ℤ}
+use lib.Ieee.{Float, in_float}
+use Rattle.float.specs.Bounds.{Unit}
+use Rattle.plane.specs.declared.Shape.{Shape}
+use Rattle.plane.specs.Plane.{full_code, value_of}
+use Rattle.plane.proofs.Claims.{value_in_unit}
+use Rattle.plane.proofs.Full.{full_by_spare}
+use Rattle.plane.specs.Coordinates.{unbiased}
+use borrow.Author.Rules.{rules}
+use Rattle.plane.proofs.value_at.Goals as goal
+
+in_unit : (bytes : List ℕ) (s : Shape) (x y : ℤ) {r : Float} → r ≡ value_of bytes s x y → (r ≡ value_of bytes s x y) × Unit r
+in_unit bytes s x y e = (e, subst Unit (sym e) (value_in_unit bytes s x y))
+
+pub int_to_float-result : goal.int_to_float-result
+unfolding in_float
+int_to_float-result c = le→leb c.code_wide.result (2 ^ 24) (omega arith)
+
+pub int_to_float-result-2 : goal.int_to_float-result-2
+unfolding in_float
+int_to_float-result-2 c = le→leb c.full_by-full.result (2 ^ 24) (omega arith)
+
+pub returns : goal.returns
+unfolding value_of
+returns c =
+    let full : c.full_by-full.result ≡ full_code c.args.s.depth = c.full_by-full.ensures.0 ∙ full_by_spare _ c.spare_bits.ensures.0 in
+    let a = c.args in
+    let e = full in
+    in_unit a.plane.now a.s (unbiased a.x) (unbiased a.y) cc
