@@ -1,13 +1,9 @@
 -- The loop keeps `Added` of the blocks passed.
-use Prim.Native.Nat.{◌-◌, ◌*◌, ◌≤◌}
-use mathlib.Core.Path.{◌≡◌, ap, sym, ◌∙◌}
-use native.Mathlib.Omega.{arith}
-use lib.ListN.{length, get_or, length-set}
-use borrow.Author.Rules.{rules}
+use Prim.Native.Nat.{◌-◌, ◌≤◌}
+use mathlib.Core.Path.{◌≡◌}
+use lib.ListN.{length, get_or}
 use Rattle.block.specs.Block.{blocks_across}
 use Rattle.block.specs.Counters.{differing_in, Added}
-use Rattle.laws.proofs.Lists.{part_length}
-use Rattle.block.proofs.Counters.{added_none, added_one, part_differing}
 use Rattle.block.proofs.add_row.Given as goal
 
 abbrev pub invariant-loop-b : goal.invariant-loop-b

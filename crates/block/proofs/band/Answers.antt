@@ -1,14 +1,11 @@
 -- The loop keeps `Added` of the rows passed.
-use Prim.Native.Nat.{ℕ, ◌-◌, ◌≤◌}
+use Prim.Native.Nat.{ℕ}
 use mathlib.Core.Path.{◌≡◌, refl, ap, ◌∙◌}
 use native.Mathlib.Omega.{arith}
-use lib.ListN.{length}
-use borrow.Author.Rules.{rules}
 use Rattle.laws.specs.Sums.{sum_over}
 use Rattle.plane.proofs.Bounds.{good_within}
 use Rattle.plane.specs.Plane.{grid_shape}
-use Rattle.block.specs.Block.{blocks_across}
-use Rattle.block.specs.Counters.{band_row, busy_by, Counters, Added}
+use Rattle.block.specs.Counters.{band_row, busy_by, Counters}
 use Rattle.block.proofs.Counters.{rows_at_most, rows_none, rows_one, counted, counted_at_most, same_busy}
 use Rattle.block.proofs.band.Goals as goal
 

@@ -1,15 +1,11 @@
 -- The loop keeps `Added` of the rows passed.
-use Prim.Native.Nat.{ℕ, ◌-◌, ◌≤◌}
-use mathlib.Core.Path.{◌≡◌, refl, ap, ◌∙◌}
-use native.Mathlib.Omega.{arith}
+use Prim.Native.Nat.{◌-◌, ◌≤◌}
+use mathlib.Core.Path.{◌≡◌}
 use lib.ListN.{length}
-use borrow.Author.Rules.{rules}
 use Rattle.laws.specs.Sums.{sum_over}
-use Rattle.plane.proofs.Bounds.{good_within}
 use Rattle.plane.specs.Plane.{grid_shape}
 use Rattle.block.specs.Block.{blocks_across}
-use Rattle.block.specs.Counters.{band_row, busy_by, Counters, Added}
-use Rattle.block.proofs.Counters.{rows_at_most, rows_none, rows_one, counted, counted_at_most, same_busy}
+use Rattle.block.specs.Counters.{band_row, Added}
 use Rattle.block.proofs.band.Given as goal
 
 abbrev pub invariant-loop-i : goal.invariant-loop-i

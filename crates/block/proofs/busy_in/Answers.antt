@@ -1,13 +1,12 @@
 -- The loop keeps `Summed` of the blocks passed.
-use Prim.Native.Nat.{ℕ, ◌-◌, ◌*◌, ◌≤◌}
+use Prim.Native.Nat.{ℕ, ◌*◌, ◌≤◌}
 use mathlib.Core.Path.{ap, ◌∙◌}
 use native.Mathlib.Omega.{arith}
 use native.Mathlib.Nat.{mul-le-mul}
 use lib.Dec.{ltb}
 use lib.ListN.{get_or}
-use borrow.Author.Rules.{rules}
-use Rattle.laws.proofs.Sums.{Summed, starts, adds, ends}
-use Rattle.block.specs.Block.{one_if, columns_in, blocks_across}
+use Rattle.laws.proofs.Sums.{starts, adds, ends}
+use Rattle.block.specs.Block.{one_if}
 use Rattle.block.proofs.busy_in.Goals as goal
 
 pub loop-b-init : goal.loop-b-init

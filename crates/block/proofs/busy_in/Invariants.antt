@@ -1,12 +1,8 @@
 -- The loop keeps `Summed` of the blocks passed.
-use Prim.Native.Nat.{ℕ, ◌-◌, ◌*◌, ◌≤◌}
-use mathlib.Core.Path.{ap, ◌∙◌}
-use native.Mathlib.Omega.{arith}
-use native.Mathlib.Nat.{mul-le-mul}
+use Prim.Native.Nat.{◌-◌, ◌*◌}
 use lib.Dec.{ltb}
 use lib.ListN.{get_or}
-use borrow.Author.Rules.{rules}
-use Rattle.laws.proofs.Sums.{Summed, starts, adds, ends}
+use Rattle.laws.proofs.Sums.{Summed}
 use Rattle.block.specs.Block.{one_if, columns_in, blocks_across}
 use Rattle.block.proofs.busy_in.Given as goal
 

@@ -1,11 +1,9 @@
 -- The loop keeps `Summed` of the bands passed.
-use Prim.Native.Nat.{ℕ, ◌-◌, ◌≤◌}
-use mathlib.Core.Path.{◌≡◌, ap, ◌∙◌}
+use Prim.Native.Nat.{ℕ, ◌≤◌}
+use mathlib.Core.Path.{ap, ◌∙◌}
 use native.Mathlib.Omega.{arith}
-use lib.ListN.{length}
-use borrow.Author.Rules.{rules}
 use Rattle.laws.specs.Sums.{sum_over}
-use Rattle.laws.proofs.Sums.{Summed, starts, adds, ends}
+use Rattle.laws.proofs.Sums.{starts, adds, ends}
 use Rattle.plane.proofs.Bounds.{good_within}
 use Rattle.plane.specs.Plane.{grid_shape}
 use Rattle.block.specs.Block.{bands_down, busy_of, busy_field}

@@ -1,15 +1,11 @@
 -- The loop keeps `Summed` of the bands passed.
-use Prim.Native.Nat.{ℕ, ◌-◌, ◌≤◌}
-use mathlib.Core.Path.{◌≡◌, ap, ◌∙◌}
-use native.Mathlib.Omega.{arith}
+use Prim.Native.Nat.{◌-◌}
+use mathlib.Core.Path.{◌≡◌}
 use lib.ListN.{length}
-use borrow.Author.Rules.{rules}
-use Rattle.laws.specs.Sums.{sum_over}
-use Rattle.laws.proofs.Sums.{Summed, starts, adds, ends}
-use Rattle.plane.proofs.Bounds.{good_within}
+use Rattle.laws.proofs.Sums.{Summed}
 use Rattle.plane.specs.Plane.{grid_shape}
-use Rattle.block.specs.Block.{bands_down, busy_of, busy_field}
-use Rattle.block.proofs.Counters.{busy_band, band_counted}
+use Rattle.block.specs.Block.{bands_down}
+use Rattle.block.proofs.Counters.{busy_band}
 use Rattle.block.proofs.busy_rows.Given as goal
 
 abbrev pub invariant-loop-k : goal.invariant-loop-k

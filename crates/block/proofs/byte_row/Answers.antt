@@ -1,7 +1,6 @@
 use Prim.Native.Nat.{◌+◌, ◌*◌, ◌≤◌}
 use native.Mathlib.Omega.{arith}
 use lib.ListN.{length}
-use borrow.Author.Rules.{rules}
 use Rattle.plane.specs.Plane.{grid_shape}
 use Rattle.plane.specs.Claims.{AllBytes}
 use Rattle.block.proofs.Rows.{row_within, byte_row_size, byte_row_kept}

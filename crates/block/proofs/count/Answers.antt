@@ -1,5 +1,4 @@
 use lib.ListN.{length}
-use borrow.Author.Rules.{rules}
 use Rattle.laws.proofs.Refusal.{gives, refuses}
 use Rattle.field.specs.Field.{first_row_of}
 use Rattle.plane.specs.Plane.{grid_shape}

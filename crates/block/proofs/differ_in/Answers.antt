@@ -1,10 +1,6 @@
 -- The loop keeps `Summed` of the columns passed.
-use Prim.Native.Nat.{◌-◌}
 use native.Mathlib.Omega.{arith}
-use lib.ListN.{length, get_or}
-use borrow.Author.Rules.{rules}
-use Rattle.laws.proofs.Sums.{Summed, starts, adds, ends}
-use Rattle.block.specs.Block.{one_if, differs}
+use Rattle.laws.proofs.Sums.{starts, adds, ends}
 use Rattle.block.proofs.differ_in.Goals as goal
 
 pub loop-x-init : goal.loop-x-init

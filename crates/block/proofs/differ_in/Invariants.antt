@@ -1,9 +1,7 @@
 -- The loop keeps `Summed` of the columns passed.
 use Prim.Native.Nat.{◌-◌}
-use native.Mathlib.Omega.{arith}
 use lib.ListN.{length, get_or}
-use borrow.Author.Rules.{rules}
-use Rattle.laws.proofs.Sums.{Summed, starts, adds, ends}
+use Rattle.laws.proofs.Sums.{Summed}
 use Rattle.block.specs.Block.{one_if, differs}
 use Rattle.block.proofs.differ_in.Given as goal
 

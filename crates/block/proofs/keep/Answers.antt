@@ -1,6 +1,5 @@
 use mathlib.Core.Path.{sym}
 use lib.ListN.{length}
-use borrow.Author.Rules.{rules}
 use Rattle.laws.proofs.Refusal.{written_done, stays}
 use Rattle.plane.specs.Plane.{grid_shape}
 use Rattle.block.proofs.Passed.{keep_passed}

@@ -5,7 +5,6 @@ use mathlib.Core.List.{List}
 use native.Mathlib.Nat.{le_antisymm}
 use native.Mathlib.Omega.{arith}
 use lib.ListN.{length}
-use borrow.Author.Rules.{rules}
 use Rattle.laws.specs.Rows.{listed}
 use Rattle.block.specs.Rows.{pair_kept}
 use Rattle.block.proofs.keep_deep.Goals as goal

@@ -1,12 +1,9 @@
 -- The loop keeps `Filled` of the columns passed.
-use Prim.Native.Nat.{ℕ, ◌+◌, ◌-◌, ◌*◌, ◌/◌, ◌^◌, min}
+use Prim.Native.Nat.{ℕ, ◌+◌, ◌*◌, ◌/◌, ◌^◌, min}
 use mathlib.Core.Path.{ap, ◌∙◌}
 use native.Mathlib.Nat.{mod-eq_of_lt}
 use native.Mathlib.Omega.{arith}
-use lib.ListN.{length}
-use borrow.Author.Rules.{rules}
-use Rattle.laws.proofs.Lists.{Filled, fill_starts, fills, fill_ends}
-use Rattle.block.specs.Rows.{pair_kept}
+use Rattle.laws.proofs.Lists.{fill_starts, fills, fill_ends}
 use Rattle.block.proofs.keep_pairs.Goals as goal
 
 pub loop-x-init : goal.loop-x-init

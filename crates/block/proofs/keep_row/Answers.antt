@@ -2,7 +2,6 @@ use Prim.Native.Nat.{ℕ, ◌+◌, ◌*◌, ◌≤◌}
 use mathlib.Core.Path.{sym, ap, ◌∙◌}
 use native.Mathlib.Omega.{arith}
 use lib.ListN.{length}
-use borrow.Author.Rules.{rules}
 use Rattle.plane.proofs.Bounds.{good_within}
 use Rattle.plane.specs.Plane.{grid_shape}
 use Rattle.laws.proofs.Lists.{part_length}

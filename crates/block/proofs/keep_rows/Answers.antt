@@ -3,11 +3,8 @@ use Prim.Native.Nat.{◌+◌, ◌-◌, ◌*◌, ◌≤◌}
 use mathlib.Core.Path.{◌≡◌, refl}
 use native.Mathlib.Omega.{arith}
 use lib.ListN.{length}
-use borrow.Author.Rules.{rules}
-use Rattle.laws.specs.Rows.{listed}
-use Rattle.laws.proofs.Lists.{Stacked, length_listed, stack_starts, stacks, stack_ends, part_length}
-use Rattle.plane.specs.Plane.{grid_shape}
-use Rattle.block.specs.Block.{kept_of, kept_frame}
+use Rattle.laws.proofs.Lists.{length_listed, stack_starts, stacks, stack_ends, part_length}
+use Rattle.block.specs.Block.{kept_frame}
 use Rattle.block.proofs.Rows.{frame_within}
 use Rattle.block.proofs.keep_rows.Goals as goal
 

@@ -1,14 +1,9 @@
 -- The loop keeps `Stacked` of the rows passed.
-use Prim.Native.Nat.{◌+◌, ◌-◌, ◌*◌, ◌≤◌}
-use mathlib.Core.Path.{◌≡◌, refl}
-use native.Mathlib.Omega.{arith}
-use lib.ListN.{length}
-use borrow.Author.Rules.{rules}
+use Prim.Native.Nat.{◌-◌}
 use Rattle.laws.specs.Rows.{listed}
-use Rattle.laws.proofs.Lists.{Stacked, length_listed, stack_starts, stacks, stack_ends, part_length}
+use Rattle.laws.proofs.Lists.{Stacked}
 use Rattle.plane.specs.Plane.{grid_shape}
-use Rattle.block.specs.Block.{kept_of, kept_frame}
-use Rattle.block.proofs.Rows.{frame_within}
+use Rattle.block.specs.Block.{kept_of}
 use Rattle.block.proofs.keep_rows.Given as goal
 
 abbrev pub invariant-loop-y : goal.invariant-loop-y

@@ -1,6 +1,5 @@
 -- `colour::converted` meets its contract: under its steps' names the definition is the code's one expression.
 use Rattle.colour.specs.Colour.{luma_of, chroma_of, u_of, v_of, kg_of, doubled_of, share_of, converted_of}
-use borrow.Author.Rules.{rules}
 use Rattle.colour.proofs.converted.Goals as goal
 
 pub returns : goal.returns

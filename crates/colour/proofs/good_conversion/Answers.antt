@@ -1,5 +1,4 @@
 use Rattle.colour.specs.Colour.{good_conversion}
-use borrow.Author.Rules.{rules}
 use Rattle.colour.proofs.good_conversion.Goals as goal
 
 pub returns : goal.returns

@@ -1,5 +1,4 @@
 use Rattle.colour.specs.Colour.{good_samples}
-use borrow.Author.Rules.{rules}
 use Rattle.colour.proofs.good_samples.Goals as goal
 
 pub returns : goal.returns

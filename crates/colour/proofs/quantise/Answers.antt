@@ -1,6 +1,5 @@
 -- `colour::quantise` meets its contract: the cut of a byte needs no clamp before it.
 use mathlib.Core.Path.{sym, ◌∙◌}
-use borrow.Author.Rules.{rules}
 use Rattle.float.proofs.Byte.{cut_of_clamp}
 use Rattle.colour.specs.Colour.{quantise_of}
 use Rattle.colour.proofs.quantise.Goals as goal

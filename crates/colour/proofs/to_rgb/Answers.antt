@@ -3,7 +3,6 @@ use mathlib.Core.Path.{refl, ap}
 use mathlib.Core.List.{[], ◌∷◌}
 use Rattle.colour.specs.declared.Rgb.{Rgb}
 use Rattle.laws.specs.Refusal.{lowest}
-use borrow.Author.Rules.{rules}
 use Rattle.colour.proofs.to_rgb.Goals as goal
 
 pub returns-then-good_conversion-good_samples : goal.returns-then-good_conversion-good_samples
