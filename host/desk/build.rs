@@ -1,5 +1,5 @@
 //! Finds the archives of the proved crates that export calls; src/calls.rs names
-//! and links them. For each of them `rt staticlib NAME` writes libNAME.a to
+//! and links them. For each of them `tools/archives NAME` writes libNAME.a to
 //! target/staticlib at the root of the repository. Where DESK_ARCHIVES names
 //! another folder (host/bench/on-arm does), its archives are linked, for
 //! whichever machine they are.
@@ -44,8 +44,8 @@ fn main() {
         println!("cargo::rerun-if-changed={}", archive.display());
         if !archive.is_file() {
             println!(
-                "cargo::error={} is missing; expected the archive that `rt staticlib {name}` \
-                 writes, run at the root of the repository",
+                "cargo::error={} is missing; expected the archive that `tools/archives {name}` \
+                 writes, at the root of the repository",
                 archive.display()
             );
         }

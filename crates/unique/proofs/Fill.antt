@@ -1,18 +1,18 @@
 -- Nothing else would satisfy a contract of `fill`.
 use mathlib.Core.Path.{refl}
-use Rattle.fill.proofs.part.Kinds as part-kinds
+use Rattle.fill.proofs.part.Kinds as part_kinds
 use Rattle.fill.proofs.part.Reads as part
-use Rattle.fill.proofs.plane.Kinds as plane-kinds
+use Rattle.fill.proofs.plane.Kinds as plane_kinds
 use Rattle.fill.proofs.plane.Reads as plane
 use Rattle.unique.specs.Unique.{OneAnswer}
 use Rattle.unique.proofs.Law.{same, ◌and◌, once}
 
-pub part_once : OneAnswer 4 part-kinds.ps part-kinds.r part.Post
+pub part_once : OneAnswer 4 part_kinds.ps part_kinds.r part.Post
 part_once =
-    once 4 part-kinds.ps part-kinds.r part.Post (λ κs a x y s t p q. same p.0 q.0)
+    once 4 part_kinds.ps part_kinds.r part.Post (λ κs a x y s t p q. same p.0 q.0)
     (λ κs a x u v p q. same p.1 q.1 and refl)
 
-pub plane_once : OneAnswer 4 plane-kinds.ps plane-kinds.r plane.Post
+pub plane_once : OneAnswer 4 plane_kinds.ps plane_kinds.r plane.Post
 plane_once =
-    once 4 plane-kinds.ps plane-kinds.r plane.Post (λ κs a x y s t p q. same p.0 q.0)
+    once 4 plane_kinds.ps plane_kinds.r plane.Post (λ κs a x y s t p q. same p.0 q.0)
     (λ κs a x u v p q. same p.1 q.1 and refl)

@@ -1,26 +1,26 @@
 -- Nothing else would satisfy a contract of `packed`.
 use mathlib.Core.Path.{refl}
-use Rattle.packed.proofs.number_at.Kinds as number-at-kinds
+use Rattle.packed.proofs.number_at.Kinds as number_at_kinds
 use Rattle.packed.proofs.number_at.Reads as number_at
-use Rattle.packed.proofs.size_in.Kinds as size-in-kinds
+use Rattle.packed.proofs.size_in.Kinds as size_in_kinds
 use Rattle.packed.proofs.size_in.Reads as size_in
-use Rattle.packed.proofs.byte_in.Kinds as byte-in-kinds
-use Rattle.packed.proofs.byte_in.Reads as byte-in
-use Rattle.packed.proofs.write_numbers.Kinds as write-numbers-kinds
-use Rattle.packed.proofs.write_numbers.Reads as write-numbers
+use Rattle.packed.proofs.byte_in.Kinds as byte_in_kinds
+use Rattle.packed.proofs.byte_in.Reads as byte_in
+use Rattle.packed.proofs.write_numbers.Kinds as write_numbers_kinds
+use Rattle.packed.proofs.write_numbers.Reads as write_numbers
 use Rattle.unique.specs.Unique.{OneAnswer}
 use Rattle.unique.proofs.Law.{same, ◌and◌, once}
 
-pub number_at_once : OneAnswer 1 number-at-kinds.ps number-at-kinds.r number_at.Post
+pub number_at_once : OneAnswer 1 number_at_kinds.ps number_at_kinds.r number_at.Post
 number_at_once κs a x y u v p q = (same p q, refl)
 
-pub size_in_once : OneAnswer 0 size-in-kinds.ps size-in-kinds.r size_in.Post
+pub size_in_once : OneAnswer 0 size_in_kinds.ps size_in_kinds.r size_in.Post
 size_in_once κs a x y u v p q = (same p q, refl)
 
-pub byte_in_once : OneAnswer 0 byte-in-kinds.ps byte-in-kinds.r byte-in.Post
+pub byte_in_once : OneAnswer 0 byte_in_kinds.ps byte_in_kinds.r byte_in.Post
 byte_in_once κs a x y u v p q = (same p q, refl)
 
-pub write_numbers_once : OneAnswer 2 write-numbers-kinds.ps write-numbers-kinds.r write-numbers.Post
+pub write_numbers_once : OneAnswer 2 write_numbers_kinds.ps write_numbers_kinds.r write_numbers.Post
 write_numbers_once =
-    once 2 write-numbers-kinds.ps write-numbers-kinds.r write-numbers.Post (λ κs a x y s t p q. same p.0 q.0)
+    once 2 write_numbers_kinds.ps write_numbers_kinds.r write_numbers.Post (λ κs a x y s t p q. same p.0 q.0)
     (λ κs a x u v p q. same p.1 q.1 and refl)

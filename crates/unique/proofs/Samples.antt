@@ -13,8 +13,8 @@ use Rattle.samples.specs.contracts.Samples.width as width
 use Rattle.samples.specs.contracts.Samples.height as height
 use Rattle.samples.specs.contracts.Samples.code as code
 use Rattle.samples.specs.contracts.Samples.at as at
-use Rattle.samples.proofs.sample_at.Kinds as sample-at-kinds
-use Rattle.samples.proofs.sample_at.Reads as sample-at
+use Rattle.samples.proofs.sample_at.Kinds as sample_at_kinds
+use Rattle.samples.proofs.sample_at.Reads as sample_at
 use Rattle.unique.specs.Unique.{OneAnswer, OneAnswerBy}
 use Rattle.unique.proofs.Law.{same, both}
 
@@ -34,5 +34,5 @@ module _ {M : Type 1} {𝓤 : Ura M} (𝓛 : Logic 𝓤) (mem : Memory → SProp
   pub at_once : OneAnswerBy 𝓤 at.ended (at.clauses 𝓛 mem run)
   at_once κs a g x y s t = both 𝓤 _ _ _ (λ p q. one_sampled x y (same p.0 q.0) (same p.1 q.1))
 
-pub sample_at_once : OneAnswer 1 sample-at-kinds.ps sample-at-kinds.r sample-at.Post
+pub sample_at_once : OneAnswer 1 sample_at_kinds.ps sample_at_kinds.r sample_at.Post
 sample_at_once κs a x y u v p q = (one_sampled x y (same p.0 q.0) (same p.1 q.1), refl)

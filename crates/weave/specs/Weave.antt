@@ -1,5 +1,7 @@
 -- Two fields woven into a frame (docs/RULES.md, "Fields and readback", "Planes"; the source is weave.rs): the numbers, the lines, the planes.
 use Rattle.std.specs.Prelude.{ℕ, ◌+◌, ◌*◌, ◌/◌, ◌%◌, min, Bool, true, false, cond, ◌&&◌, List, [], ◌∷◌, leb, ltb, eqb, length, take, drop}
+use denote.MutBor.{MutBor}
+use denote.Triple.Both.{Both}
 use Rattle.laws.specs.Lent.{Slice}
 use Rattle.laws.specs.Refusal.{lowest, written}
 use Rattle.laws.specs.Rows.{laid, over}
@@ -94,8 +96,12 @@ weave_tests top bottom luma_room cb_room cr_room =
 abbrev pub weave_no : Given → Given → ℕ → ℕ → ℕ → ℕ
 weave_no top bottom luma_room cb_room cr_room = lowest (weave_tests top bottom luma_room cb_room cr_room)
 
+-- an output as an `ensures` has it: `.entry.now` is what stands there when the call begins
+abbrev pub Output : Type 0 → Type 0
+Output A = Both (MutBor (List ℕ)) A
+
 -- the same of three outputs that are lent
-abbrev pub weave_no_of : {A B C : Type 0} → Given → Given → Slice A → Slice B → Slice C → ℕ
+abbrev pub weave_no_of : {A B C : Type 0} → Given → Given → Output A → Output B → Output C → ℕ
 weave_no_of top bottom luma cb cr = weave_no top bottom (length luma.entry.now) (length cb.entry.now) (length cr.entry.now)
 
 -- what an output holds after a call that gets this number
@@ -124,7 +130,7 @@ line_given top t bottom b y =
 abbrev pub place_given : {A B : Type 0} → Slice A → Grid → Slice B → Grid → ℕ → ℕ × ℕ
 place_given top t bottom b y =
     written (line_no t (length top.entry.now) b (length bottom.entry.now) y) (line_place top.entry.ref_ptr t bottom.entry.ref_ptr b y)
-    top.entry.ptr
+    top.entry.ref_ptr
 
 -- ---- the format of a woven frame
 

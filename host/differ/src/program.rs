@@ -50,29 +50,17 @@ impl Program {
     /// The program of this name that the repository has built.
     pub fn built(name: &str) -> Result<Self, String> {
         let root = Path::new(env!("CARGO_MANIFEST_DIR")).join("../..");
-        let program = root.join("target/bin").join(name);
+        let program = root.join("crates").join(name).join("out").join(name);
         if !program.is_file() {
             return Err(format!(
-                "{} is missing; expected the program that `rt check {name}` builds, run at the \
-                 root of the repository",
+                "{} is missing; expected the program that `./run {name}` builds, at the root of \
+                 the repository",
                 program.display()
             ));
         }
-        // The loader and the C library of the toolchain, as in ./run.
-        let page = said("rt", "doc")?;
-        let kit = Path::new(&page)
-            .parent()
-            .and_then(Path::parent)
-            .ok_or_else(|| format!("`rt doc` says `{page}`; expected a page in the kit"))?;
-        let tools = kit.join("on").join(said("uname", "-m")?).join("toolchain");
-        let emulator = tools.join("bin/qemu-x86_64");
-        let library = tools.join("lib");
-        let loader = library.join("ld-linux-x86-64.so.2");
-        let mut words = vec![loader, "--library-path".into(), library, program];
-        if emulator.is_file() {
-            words.insert(0, emulator);
-        }
-        let words = words.into_iter().map(|word| word.display().to_string());
+        // Where an emulator is needed, host/cargo names it.
+        let emulator = env::var("CARGO_TARGET_X86_64_UNKNOWN_LINUX_GNU_RUNNER").ok();
+        let words = emulator.into_iter().chain([program.display().to_string()]);
         Ok(Self(words.collect()))
     }
 
@@ -151,13 +139,4 @@ pub fn same_lines(found: &str, wanted: &str) -> Result<(), Difference> {
         line(&found),
         line(&wanted),
     ))
-}
-
-/// The one line that a command prints.
-fn said(command: &str, argument: &str) -> Result<String, String> {
-    let output = Command::new(command)
-        .arg(argument)
-        .output()
-        .map_err(|error| format!("`{command} {argument}` does not start: {error}"))?;
-    Ok(String::from_utf8_lossy(&output.stdout).trim().to_owned())
 }

@@ -32,16 +32,16 @@ impl Left {
     }
 }
 
-/// Runs a line of shell at the root of the repository, one at a time: `rt check`
-/// keeps notes in target/, which two of them would write over each other.
+/// Runs a line of shell at the root of the repository, one at a time: of two that
+/// look at one crate, the second would wait.
 fn shell(line: &str) -> Left {
     static ONE: Mutex<()> = Mutex::new(());
     let _one = ONE.lock().unwrap_or_else(PoisonError::into_inner);
     for name in ["cadence", "cards", "replay_desk"] {
-        let stamp = root().join("target/stamp").join(name);
+        let stamp = root().join(format!("crates/{name}/out/{name}.stamp"));
         assert!(
             stamp.is_file(),
-            "{} is missing; expected it from `rt check {name}`, run at the root of the repository",
+            "{} is missing; expected it from `./run {name}`, at the root of the repository",
             stamp.display()
         );
     }

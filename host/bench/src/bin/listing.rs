@@ -6,7 +6,7 @@
 //!     host/cargo build --release -p reader
 //!     host/cargo run --release -p bench --bin listing
 //!
-//! Arguments name another program in the place of target/bin/cadence.
+//! Arguments name another program in the place of crates/cadence/out/cadence.
 
 use std::env;
 use std::fs::{self, File};

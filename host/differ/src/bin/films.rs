@@ -5,7 +5,7 @@
 //! seen at once, and film that is not found. They are put to the exported
 //! detector and to the original's.
 //!
-//!     films                   target/bin/cadence, started as ./run starts it
+//!     films                   crates/cadence/out/cadence, which ./run builds
 //!     films PROGRAM ARGUMENT  another program
 //!
 //! Prints a line for each film, each five splices and each kind of shot. Ends

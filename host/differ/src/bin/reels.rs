@@ -2,7 +2,7 @@
 //! prints of each with the listing of the second reader (crate `reader`). On
 //! standard error it has to say why it refuses a file, and nothing of another.
 //!
-//!     reels                    every kind of file, to target/bin/cadence, started
+//!     reels                    every kind of file, to crates/cadence/out/cadence,
 //!                              as ./run starts it
 //!     reels cuts films         these kinds: cuts, bytes, pairs, films, longest
 //!     reels --whole            all files; else of three kinds a part is made

@@ -1,0 +1,4 @@
+use Rattle.weave.proofs.is_whole.Goals as goal
+
+pub returns : goal.returns
+returns c = cc

@@ -1,0 +1,4 @@
+use Rattle.weave.proofs.whole_field.Goals as goal
+
+pub returns : goal.returns
+returns c = cc
