@@ -1,0 +1,5 @@
+use borrow.Author.Rules.{rules}
+use Rattle.reel.proofs.Reel.start.Goals as goal
+
+pub returns : goal.returns
+returns c = cc
