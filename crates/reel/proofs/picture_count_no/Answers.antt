@@ -1,4 +1,3 @@
-use borrow.Author.Rules.{rules}
 use Rattle.laws.specs.Refusal.{lowest}
 use Rattle.reel.proofs.picture_count_no.Goals as goal
 

@@ -1,4 +1,3 @@
-use borrow.Author.Rules.{rules}
 use Rattle.reel.proofs.pictured_in.Goals as goal
 
 pub returns : goal.returns

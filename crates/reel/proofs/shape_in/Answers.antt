@@ -1,4 +1,3 @@
-use borrow.Author.Rules.{rules}
 use Rattle.reel.specs.Reel.{shape_in}
 use Rattle.reel.proofs.shape_in.Goals as goal
 

@@ -1,4 +1,3 @@
-use borrow.Author.Rules.{rules}
 use borrow.Author.Tests.{eq-eqb, ne_eqb}
 use Rattle.reel.specs.Machine.{end_of}
 use Rattle.reel.proofs.Reel.end.Goals as goal

@@ -1,4 +1,3 @@
-use borrow.Author.Rules.{rules}
 use borrow.Author.Tests.{le-leb, lt-leb}
 use Rattle.reel.specs.Machine.{entry_count_of}
 use Rattle.reel.proofs.Reel.entry_count.Goals as goal

@@ -1,4 +1,3 @@
-use borrow.Author.Rules.{rules}
 use borrow.Author.Tests.{eq-eqb, ne_eqb}
 use Rattle.reel.specs.Machine.{pushed_of, entry_unit_of, next_of, store_after}
 use Rattle.reel.proofs.Reel.next.Goals as goal
@@ -32,11 +31,10 @@ returns-then-n-eq0-2 c =
 
 pub returns-else-n-eq0-2 : goal.returns-else-n-eq0-2
 unfolding next_of store_after
-returns-else-n-eq0-2 c =
-    (
-      simp (c.in-Pictures.is, ne_eqb _ _ c.if-n-eq0-2.false) c.picture_unit.ensures.0,
-      simp (c.in-Pictures.is, ne_eqb _ _ c.if-n-eq0-2.false) c.picture_unit.ensures.1,
-    )
+returns-else-n-eq0-2 c = (
+  simp (c.in-Pictures.is, ne_eqb _ _ c.if-n-eq0-2.false) c.picture_unit.ensures.0,
+  simp (c.in-Pictures.is, ne_eqb _ _ c.if-n-eq0-2.false) c.picture_unit.ensures.1,
+)
 
 pub returns-in-Done : goal.returns-in-Done
 unfolding next_of store_after

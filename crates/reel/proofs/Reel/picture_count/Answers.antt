@@ -1,4 +1,3 @@
-use borrow.Author.Rules.{rules}
 use borrow.Author.Tests.{le-leb, lt-leb, eq-eqb, ne_eqb}
 use Rattle.reel.specs.Machine.{picture_count_of}
 use Rattle.reel.proofs.Reel.picture_count.Goals as goal

@@ -1,5 +1,4 @@
 use mathlib.Core.Path.{◌∙◌}
-use borrow.Author.Rules.{rules}
 use borrow.Author.Tests.{le-leb, lt-leb}
 use Rattle.reel.specs.Machine.{picture_unit_of, picture_store}
 use Rattle.reel.proofs.Pushes.{picture_leads}

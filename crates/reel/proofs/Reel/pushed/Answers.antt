@@ -1,4 +1,3 @@
-use borrow.Author.Rules.{rules}
 use Rattle.reel.specs.Inner.{pushed_as}
 use Rattle.reel.proofs.Reel.pushed.Goals as goal
 

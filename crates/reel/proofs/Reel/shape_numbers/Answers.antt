@@ -1,5 +1,4 @@
 use mathlib.Core.Path.{sym, ◌∙◌}
-use borrow.Author.Rules.{rules}
 use borrow.Author.Tests.{le-leb, lt-leb, eq-eqb, ne_eqb}
 use Rattle.reel.specs.Machine.{shape_numbers_of}
 use Rattle.reel.proofs.Cut.{judged_cut, uncut}

@@ -1,4 +1,3 @@
-use borrow.Author.Rules.{rules}
 use borrow.Author.Tests.{eq-eqb, ne_eqb}
 use Rattle.reel.specs.Machine.{want_of}
 use Rattle.reel.proofs.Reel.want.Goals as goal

@@ -1,4 +1,3 @@
-use borrow.Author.Rules.{rules}
 use Rattle.reel.proofs.Tally.add.Goals as goal
 
 pub returns-in-Whole : goal.returns-in-Whole
