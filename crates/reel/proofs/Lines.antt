@@ -3,7 +3,7 @@
 use Prim.Native.Nat.{ℕ, zero, suc, ◌+◌, ◌-◌, ◌*◌, ◌<◌}
 use native.Mathlib.Nat.{mul-zero, mul-suc}
 use native.Mathlib.Omega.{arith}
-use mathlib.Core.Path.{◌≡◌, refl, ap, ◌∙◌}
+use mathlib.Core.Path.{◌≡◌, refl, ap, sym, subst, ◌∙◌}
 use mathlib.Core.Bool.{Bool, true, false, cond}
 use mathlib.Core.List.{List, [], ◌∷◌}
 use lib.Dec.{eqb, leb}
@@ -117,7 +117,10 @@ module _ (frames : ℕ → Push) where
       frame-from : (state : State) (u : Push) → u ≡ frames k → Come state k
           → ((v : Tally) → Come (next state (push u)) (suc k) → From (suc k) (more (next state (push u)) v))
           → From k (frame state t u more)
-      frame-from state u u-is come rest = rw (u-is, come.is) (frame-now come.all (rw (u-is, come.is) at rest))
+      frame-from state u u-is come rest =
+          let here = frame-now come.all (subst Rest come.is (rw u-is at rest)) in
+          let there = subst (λ (s : State). From k (frame s t (frames k) more)) (sym come.is) here in
+          subst (λ (p : Push). From k (frame state t p more)) (sym u-is) there
 
 -- ---- a unit holds the numbers that are read from it
 word_there : (n : ℕ) (bytes : List ℕ) (i : ℕ) → i + 1 < n → word_at (take n bytes) i ≡ word_at bytes i

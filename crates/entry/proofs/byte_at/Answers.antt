@@ -1,7 +1,6 @@
 use native.Mathlib.Omega.{arith}
 use lib.ListN.{get_or-eq_default}
 use mathlib.Core.Path.{sym}
-use borrow.Author.Rules.{rules}
 use Rattle.entry.proofs.byte_at.Goals as goal
 
 pub returns-else-i-bytes : goal.returns-else-i-bytes

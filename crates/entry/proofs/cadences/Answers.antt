@@ -1,6 +1,5 @@
 use mathlib.Core.Path.{sym}
 use lib.ListN.{length}
-use borrow.Author.Rules.{rules}
 use Rattle.laws.proofs.Refusal.{written_done, stays}
 use Rattle.entry.proofs.Judged.{passed}
 use Rattle.entry.proofs.cadences.Goals as goal

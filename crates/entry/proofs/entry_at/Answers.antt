@@ -4,7 +4,6 @@ use native.Mathlib.Omega.{arith}
 use lib.ListN.{take, drop}
 use Rattle.entry.specs.Entry.{entry_of}
 use Rattle.entry.proofs.Entries.{entry_within}
-use borrow.Author.Rules.{rules}
 use Rattle.entry.proofs.entry_at.Goals as goal
 
 pub returns : goal.returns

@@ -1,4 +1,3 @@
-use borrow.Author.Rules.{rules}
 use Rattle.entry.specs.Entry.{entry_of}
 use Rattle.entry.proofs.entry_of.Goals as goal
 

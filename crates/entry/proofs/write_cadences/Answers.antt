@@ -1,5 +1,4 @@
 -- What the codes give is what the entries give.
-use borrow.Author.Rules.{rules}
 use Rattle.entry.proofs.Entries.{all-written}
 use Rattle.entry.proofs.write_cadences.Goals as goal
 

@@ -1,16 +1,11 @@
 -- The loop keeps the field that led in the last of the entries passed, and their codes.
-use Prim.Native.Nat.{ℕ, ◌-◌, ◌<◌, ◌≤◌}
-use mathlib.Core.Path.{◌≡◌, refl, ap, ◌∙◌}
-use native.Mathlib.Nat.{le_antisymm}
-use native.Mathlib.Omega.{arith}
-use lib.ListN.{length, length-set}
-use borrow.Author.Rules.{rules}
+use Prim.Native.Nat.{◌-◌, ◌≤◌}
+use mathlib.Core.Path.{◌≡◌}
+use lib.ListN.{length}
 use Rattle.laws.specs.Rows.{listed, over}
-use Rattle.laws.proofs.Rows.{over_none, over_more}
 use Rattle.telecine.specs.History.{last_parity}
 use Rattle.entry.specs.Entry.{earlier_than}
 use Rattle.entry.specs.Inner.{code_at}
-use Rattle.entry.proofs.Entries.{code_given, last_left}
 use Rattle.entry.proofs.write_codes.Given as goal
 
 abbrev pub invariant-loop-k : goal.invariant-loop-k

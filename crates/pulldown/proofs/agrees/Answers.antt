@@ -1,10 +1,7 @@
 -- The laws of the walk through the ring are in Walk.
-use Prim.Native.Nat.{◌+◌, ◌<◌, ◌≤◌}
 use mathlib.Core.Path.{sym, ◌∙◌}
 use native.Mathlib.Omega.{arith}
-use Rattle.pulldown.specs.Lock.{window}
-use Rattle.pulldown.proofs.Walk.{Walk, begun, onward, stopped, ended}
-use borrow.Author.Rules.{rules}
+use Rattle.pulldown.proofs.Walk.{begun, onward, stopped, ended}
 use Rattle.pulldown.proofs.agrees.Goals as goal
 
 pub loop-left-init : goal.loop-left-init

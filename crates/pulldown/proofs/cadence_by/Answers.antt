@@ -1,5 +1,4 @@
 use borrow.Author.Tests.{lt-ltb, le-ltb}
-use borrow.Author.Rules.{rules}
 use Rattle.pulldown.proofs.cadence_by.Goals as goal
 
 pub returns-then-phase-lt-NO_PHASE : goal.returns-then-phase-lt-NO_PHASE

@@ -1,11 +1,8 @@
 -- No phase below the one that is tried agrees.
 use Prim.Native.Nat.{◌-◌}
-use mathlib.Core.Path.{sym, ◌∙◌}
-use borrow.Author.Count.{below_none, below_more}
 use Rattle.pulldown.specs.Runs.{agrees}
-use Rattle.pulldown.specs.Lock.{window, candidate_of}
-use Rattle.pulldown.proofs.FirstPhase.{NoneBelow, first_here, first_none}
-use borrow.Author.Rules.{rules}
+use Rattle.pulldown.specs.Lock.{window}
+use Rattle.pulldown.proofs.FirstPhase.{NoneBelow}
 use Rattle.pulldown.proofs.candidate.Given as goal
 
 abbrev pub invariant-loop-phase : goal.invariant-loop-phase

@@ -1,5 +1,4 @@
 use Rattle.pulldown.specs.Symbols.{symbol_of}
-use borrow.Author.Rules.{rules}
 use Rattle.pulldown.proofs.classify_counts.Goals as goal
 
 pub returns-then-first-quiet : goal.returns-then-first-quiet

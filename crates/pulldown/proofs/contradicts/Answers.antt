@@ -1,6 +1,5 @@
 use borrow.Author.Tests.{lt-ltb, le-ltb}
 use Rattle.pulldown.specs.Runs.{contradicts}
-use borrow.Author.Rules.{rules}
 use Rattle.pulldown.proofs.contradicts.Goals as goal
 
 pub returns-then-phase-lt-NO_PHASE : goal.returns-then-phase-lt-NO_PHASE

@@ -1,4 +1,3 @@
-use borrow.Author.Rules.{rules}
 use Rattle.pulldown.proofs.Step.{entered, few_held}
 use Rattle.pulldown.proofs.enter.Goals as goal
 

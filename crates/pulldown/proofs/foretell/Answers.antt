@@ -1,6 +1,5 @@
 use borrow.Author.Tests.{lt-ltb, le-ltb, le-leb, lt-leb}
 use Rattle.pulldown.specs.Runs.{foretold}
-use borrow.Author.Rules.{rules}
 use Rattle.pulldown.proofs.foretell.Goals as goal
 
 pub returns-then-less-since : goal.returns-then-less-since

@@ -1,5 +1,4 @@
 use mathlib.Core.Path.{sym}
-use borrow.Author.Rules.{rules}
 use Rattle.pulldown.proofs.Few.{few_locked}
 use Rattle.pulldown.proofs.locked_among.Goals as goal
 

@@ -1,6 +1,5 @@
 use borrow.Author.Tests.{lt-ltb, le-ltb}
 use Rattle.pulldown.specs.Lock.{locked_by}
-use borrow.Author.Rules.{rules}
 use Rattle.pulldown.proofs.locked_by.Goals as goal
 
 pub returns-then-step_of-lt2 : goal.returns-then-step_of-lt2

@@ -1,6 +1,5 @@
 use borrow.Author.Tests.{lt-ltb, le-ltb}
 use Rattle.laws.specs.Refusal.{lowest}
-use borrow.Author.Rules.{rules}
 use Rattle.pulldown.proofs.push_apart.Goals as goal
 
 pub returns-then-course-ge-MOST_FRAMES : goal.returns-then-course-ge-MOST_FRAMES

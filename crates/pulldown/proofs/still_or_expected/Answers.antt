@@ -1,5 +1,4 @@
 use Rattle.pulldown.specs.Runs.{still_or_expected}
-use borrow.Author.Rules.{rules}
 use Rattle.pulldown.proofs.still_or_expected.Goals as goal
 
 pub returns : goal.returns

@@ -1,5 +1,4 @@
 use mathlib.Core.Path.{◌∙◌}
-use borrow.Author.Rules.{rules}
 use Rattle.pulldown.specs.Lock.{advance_of}
 use Rattle.pulldown.proofs.take_seen.Goals as goal
 

@@ -1,5 +1,4 @@
 use borrow.Author.Tests.{lt-ltb, le-ltb}
-use borrow.Author.Rules.{rules}
 use Rattle.pulldown.proofs.take_symbol.Goals as goal
 
 pub returns-then-after-lt-NO_PHASE : goal.returns-then-after-lt-NO_PHASE

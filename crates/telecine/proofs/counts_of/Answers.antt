@@ -1,5 +1,4 @@
 use Rattle.telecine.proofs.Calls.{counted_value, never_refused}
-use borrow.Author.Rules.{rules}
 use Rattle.telecine.proofs.counts_of.Goals as goal
 
 pub returns-in-Value : goal.returns-in-Value

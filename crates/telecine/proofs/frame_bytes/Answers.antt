@@ -1,6 +1,5 @@
 use native.Mathlib.Nat.{mul-le-mul}
 use native.Mathlib.Omega.{arith}
-use borrow.Author.Rules.{rules}
 use Rattle.telecine.proofs.frame_bytes.Goals as goal
 
 pub overflow_mul-result : goal.overflow_mul-result

@@ -1,4 +1,3 @@
-use borrow.Author.Rules.{rules}
 use Rattle.telecine.proofs.kept_bytes.Goals as goal
 
 pub returns-then-kept : goal.returns-then-kept

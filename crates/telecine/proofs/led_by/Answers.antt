@@ -1,4 +1,3 @@
-use borrow.Author.Rules.{rules}
 use Rattle.telecine.proofs.led_by.Goals as goal
 
 pub returns-in-Field : goal.returns-in-Field

@@ -1,4 +1,3 @@
-use borrow.Author.Rules.{rules}
 use Rattle.telecine.proofs.seen_measured.Goals as goal
 
 pub returns-then-led_by : goal.returns-then-led_by

@@ -1,6 +1,5 @@
 use mathlib.Core.Path.{sym, ◌∙◌}
 use Rattle.telecine.specs.Detector.{symbol_against}
-use borrow.Author.Rules.{rules}
 use Rattle.telecine.proofs.seen_picture.Goals as goal
 
 pub returns-then-can_compare : goal.returns-then-can_compare

@@ -1,6 +1,5 @@
 use borrow.Author.Tests.{lt-ltb, le-ltb}
 use Rattle.laws.specs.Refusal.{lowest}
-use borrow.Author.Rules.{rules}
 use Rattle.telecine.proofs.step.Goals as goal
 
 pub returns-then-course-ge-MOST_FRAMES : goal.returns-then-course-ge-MOST_FRAMES
@@ -15,5 +14,5 @@ returns c =
       course_after = e.course_after;
       last_value = simp (lt-ltb _ _ c.if-course-ge-MOST_FRAMES.false);
       answer_value = e.answer_value;
-      answer_value_2 = e.answer_value_2
+      answer_value_2 = e.answer_value_2;
     }

@@ -1,6 +1,5 @@
 use borrow.Author.Tests.{le-leb, lt-leb}
 use Rattle.laws.specs.Refusal.{lowest}
-use borrow.Author.Rules.{rules}
 use Rattle.pulldown.proofs.Lock.predict.Goals as goal
 
 pub returns-then-ahead-gt-MOST_AHEAD : goal.returns-then-ahead-gt-MOST_AHEAD

@@ -1,6 +1,5 @@
 use Rattle.plane.specs.Plane.{grid_shape}
 use Rattle.telecine.proofs.Calls.{count_done, picture_refused, picture_left}
-use borrow.Author.Rules.{rules}
 use Rattle.telecine.proofs.Detector.push.Goals as goal
 
 pub returns-then-no-ne0 : goal.returns-then-no-ne0

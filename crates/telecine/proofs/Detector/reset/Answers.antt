@@ -1,4 +1,3 @@
-use borrow.Author.Rules.{rules}
 use Rattle.telecine.proofs.Detector.reset.Goals as goal
 
 pub returns : goal.returns
