@@ -1,4 +1,3 @@
-use borrow.Author.Rules.{rules}
 use Rattle.filmdesk.proofs.chosen_number.Goals as goal
 
 pub returns-in-Field : goal.returns-in-Field

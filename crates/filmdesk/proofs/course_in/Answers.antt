@@ -3,7 +3,6 @@ use lib.Dec.{lit<}
 use lib.ListN.{get_or}
 use Rattle.filmdesk.specs.Kept.{detector_in}
 use Rattle.filmdesk.proofs.Kept.{front_number}
-use borrow.Author.Rules.{rules}
 use Rattle.filmdesk.proofs.course_in.Goals as goal
 
 pub returns : goal.returns

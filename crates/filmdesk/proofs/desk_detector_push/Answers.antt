@@ -4,7 +4,6 @@ use mathlib.Core.Bool.{◌&&◌}
 use mathlib.Core.List.{[], ◌∷◌}
 use lib.Dec.{leb}
 use lib.ListN.{length}
-use borrow.Author.Rules.{rules}
 use borrow.Author.Tests.{leb-true}
 use Rattle.laws.specs.Refusal.{lowest, when_done, written}
 use Rattle.laws.specs.Rows.{over}

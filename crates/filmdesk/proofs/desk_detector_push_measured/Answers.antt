@@ -1,9 +1,6 @@
 use mathlib.Core.Path.{◌≡◌, refl, ap, ◌∙◌}
-use mathlib.Core.Bool.{◌&&◌}
-use lib.Dec.{leb}
 use lib.ListN.{length}
-use borrow.Author.Rules.{rules}
-use borrow.Author.Tests.{le-leb, lt-leb, not-true, not-false}
+use borrow.Author.Tests.{le-leb, lt-leb}
 use Rattle.laws.specs.Refusal.{lowest, when_done, written}
 use Rattle.laws.proofs.Refusal.{Tells, told_number, told_value, told_nothing}
 use Rattle.field.specs.Field.{cadence_number, parity_named}

@@ -1,4 +1,3 @@
-use borrow.Author.Rules.{rules}
 use Rattle.filmdesk.specs.Inner.{detector_with}
 use Rattle.filmdesk.proofs.detector_in.Goals as goal
 

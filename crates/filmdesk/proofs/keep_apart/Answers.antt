@@ -2,7 +2,6 @@ use Prim.Native.Nat.{ℕ}
 use mathlib.Core.Path.{ap, ◌∙◌}
 use mathlib.Core.List.{List, [], ◌∷◌, ◌++◌}
 use lib.ListN.{length}
-use borrow.Author.Rules.{rules}
 use Rattle.laws.specs.Rows.{over}
 use Rattle.packed.specs.Packed.{packed_of}
 use Rattle.filmdesk.proofs.Kept.{parts_kept}

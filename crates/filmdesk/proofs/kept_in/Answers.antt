@@ -5,7 +5,6 @@ use lib.Dec.{eqb, lit<}
 use Rattle.field.specs.Field.{parity_named}
 use Rattle.filmdesk.specs.Kept.{detector_in}
 use Rattle.filmdesk.proofs.Kept.{front_number}
-use borrow.Author.Rules.{rules}
 use Rattle.filmdesk.proofs.kept_in.Goals as goal
 
 pub returns : goal.returns

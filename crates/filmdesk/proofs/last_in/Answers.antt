@@ -2,7 +2,6 @@ use mathlib.Core.Path.{ap, ◌∙◌}
 use lib.Dec.{lit<}
 use Rattle.filmdesk.specs.Kept.{detector_in, chosen_named}
 use Rattle.filmdesk.proofs.Kept.{front_number}
-use borrow.Author.Rules.{rules}
 use Rattle.filmdesk.proofs.last_in.Goals as goal
 
 pub returns : goal.returns

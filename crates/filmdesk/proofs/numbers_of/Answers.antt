@@ -1,5 +1,4 @@
 use mathlib.Core.List.{[], ◌∷◌}
-use borrow.Author.Rules.{rules}
 use Rattle.filmdesk.proofs.numbers_of.Goals as goal
 
 pub returns : goal.returns

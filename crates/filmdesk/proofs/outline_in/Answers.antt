@@ -1,5 +1,4 @@
 use lib.ListN.{replicate}
-use borrow.Author.Rules.{rules}
 use Rattle.telecine.specs.Detector.{nothing_kept}
 use Rattle.filmdesk.specs.Inner.{detector_with}
 use Rattle.filmdesk.proofs.outline_in.Goals as goal

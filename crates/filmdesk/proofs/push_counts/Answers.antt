@@ -1,7 +1,6 @@
 use Prim.Native.Nat.{ℕ}
 use mathlib.Core.Path.{◌≡◌, refl, sym, ap, ◌∙◌}
 use lib.ListN.{length}
-use borrow.Author.Rules.{rules}
 use Rattle.laws.specs.Refusal.{when_done, written}
 use Rattle.laws.proofs.Refusal.{Tells, told_number, told_nothing}
 use Rattle.field.specs.declared.Chosen.TheVariants as chosen

@@ -1,6 +1,5 @@
 -- A reset looks at the last parity alone.
 use mathlib.Core.Path.{ap, ◌∙◌}
-use borrow.Author.Rules.{rules}
 use Rattle.telecine.specs.Detector.{reset_of}
 use Rattle.filmdesk.proofs.reset_in.Goals as goal
 

@@ -1,10 +1,7 @@
 -- The loop keeps `Filled` of the places passed.
 use Prim.Native.Nat.{◌+◌, ◌-◌}
-use mathlib.Core.Path.{refl}
-use native.Mathlib.Omega.{arith}
 use lib.ListN.{get_or}
-use Rattle.laws.proofs.Lists.{Filled, fill_starts, fills, fill_ends}
-use Rattle.filmdesk.specs.Kept.{detector_in}
+use Rattle.laws.proofs.Lists.{Filled}
 use Rattle.filmdesk.proofs.ring_in.Given as goal
 
 abbrev pub invariant-loop-i : goal.invariant-loop-i

@@ -1,11 +1,8 @@
 -- The loop keeps `Filled` of the places passed.
-use Prim.Native.Nat.{ℕ, ◌+◌, ◌-◌, ◌≤◌, ◌<◌}
+use Prim.Native.Nat.{◌-◌, ◌≤◌}
 use mathlib.Core.List.{[], ◌∷◌, ◌++◌}
-use native.Mathlib.Omega.{arith}
-use mathlib.Core.Path.{◌≡◌, sym, ap, ◌∙◌}
-use lib.ListN.{length, get_or, set, get_or-append, length-append, length-set}
-use lib.Seq.{get_or-append-add}
-use Rattle.laws.proofs.Lists.{Filled, fill_starts, fills, fill_ends, listed_again}
+use lib.ListN.{get_or}
+use Rattle.laws.proofs.Lists.{Filled}
 use Rattle.filmdesk.proofs.write_ring.Given as goal
 
 abbrev pub invariant-loop-i : goal.invariant-loop-i
