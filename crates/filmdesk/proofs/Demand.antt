@@ -1,6 +1,6 @@
 -- The claims over any calls: the state always holds the detector that the frames given so far leave, of which crate `telecine` has the same claims.
 use Prim.Native.Nat.{ℕ, ◌+◌, ◌≤◌, ◌<◌}
-use mathlib.Core.Path.{◌≡◌, refl, sym, ap, ◌∙◌}
+use mathlib.Core.Path.{◌≡◌, refl, sym, ap, subst, ◌∙◌}
 use mathlib.Core.Logic.{◌↔◌, ⊎_elim}
 use mathlib.Core.Bool.{Bool, true, false, cond}
 use mathlib.Core.List.{List, [], ◌∷◌}
@@ -14,6 +14,7 @@ use Rattle.field.specs.declared.Cadence.{Cadence}
 use Rattle.field.specs.declared.Cadence.TheVariants.{None, Whole, Drop, Spanning}
 use Rattle.field.specs.Field.{cadence_number}
 use Rattle.pulldown.specs.Runs.{Frame, Meets, phase_of, lock_frame, foretold}
+use Rattle.pulldown.specs.Claims.{Third}
 use Rattle.laws.proofs.Bools.{known, clash, and_left}
 use Rattle.telecine.specs.Detector.{fresh_detector, reset_of}
 use Rattle.telecine.specs.History as calls
@@ -131,7 +132,13 @@ third_demand l u earlier room done =
     (λ e. record {
       cadence = calls.cadence_in (calls.after f.found (calls_of earlier)) (frame_of u);
       byte = λ before. byte_is _ _ f.holds u before e done ∙ same_byte (calls.cadence_in (calls.after f.found (calls_of earlier)) (frame_of u));
-      third = rw f.long at (telecine.third_demand f.found (frame_of u) (calls_of earlier) (sym (number_named _ _ f.holds u e) ∙ done));
+      third =
+          subst
+          (λ (room : ℕ).
+          let known = calls.taken room (calls_of earlier) in
+          Third (calls.frames_of known) (calls.run_of (calls.push (frame_of u) ∷ known)) (calls.cadence_of f.found (frame_of u) (calls_of earlier)))
+          f.long
+          (telecine.third_demand f.found (frame_of u) (calls_of earlier) (sym (number_named _ _ f.holds u e) ∙ done));
     })
     (λ e. absurd (unnamed_refused _ _ f.holds u e done))
     (known (named u))
