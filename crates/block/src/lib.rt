@@ -347,6 +347,7 @@ fn count_no(grid: Grid, bytes: usize, room: usize) -> u8
     )
 }
 
+#[tactic(auto, unfolding(laws::specs::Refusal::lowest))]
 fn keep_no(grid: Grid, bytes: usize, room: usize) -> u8
     ensures { result ≡ keep_no (grid_shape grid) bytes room }
 {

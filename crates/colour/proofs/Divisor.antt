@@ -34,9 +34,15 @@ Held q = HasValue (round binary32 false q 16) false q 16
 -- ---- what is at least q / 16, rounded
 finite_above : (x : Float) → T (above x) → T (finite x) → T (positive x)
 finite_above (fin false m e) a f = a
+finite_above nan a f = elim a [ ]
+finite_above (inf _) a f = elim f [ ]
+finite_above (fin true m e) a f = elim a [ ]
 
 by_fraction : (q : ℕ) (x : Float) → T (positive x) → q * den x ≤ num x * 16 → Sixteenths q x
 by_fraction q (fin false m e) p h = h
+by_fraction q nan p h = elim p [ ]
+by_fraction q (inf _) p h = elim p [ ]
+by_fraction q (fin true m e) p h = elim p [ ]
 
 module _ (q : ℕ) (v : Held q) (Q : 0 < q) where
   -- A fraction that is at least q / 16 rounds to no less.
@@ -68,6 +74,11 @@ module _ (q : ℕ) (v : Held q) (Q : 0 < q) where
       let taken : b * 16 ≤ 7 * c =
       le_trans (le_of_eq (mul_right_comm (n * up d) (down e) 16)) (le_trans (mul-le-mul_right (down e) weight) (le_of_eq (simp (mul_assoc, mul_comm)))) in
       sixteenths_sum a b c (not s) (mul-pos (down_pos e) (down_pos d)) (omega arith) (omega arith) f
+  less_weight nan w p k f = elim p [ ]
+  less_weight (inf _) w p k f = elim p [ ]
+  less_weight (fin false m e) nan p k f = elim k [ ]
+  less_weight (fin false m e) (inf _) p k f = elim k [ ]
+  less_weight (fin true m e) w p k f = elim p [ ]
 
 -- ---- 16 / 16, 9 / 16, 2 / 16
 sixteenths_one : Sixteenths 16 one_f
@@ -84,6 +95,9 @@ held_two = (refl, refl)
 
 away_eighth : (x : Float) → Sixteenths 2 x → Away 3 x
 away_eighth (fin false m e) p = record { bound = omega arith }
+away_eighth nan p = elim p [ ]
+away_eighth (inf _) p = elim p [ ]
+away_eighth (fin true m e) p = elim p [ ]
 
 -- The divisor is finite, and at least 2 ^ -3.
 pub away_kg : (c : Conversion) → Weight c.kr → Weight c.kb → Away 3 (kg_of c)

@@ -28,6 +28,7 @@ at_least a b = go (ltb b a) (eqb a b) (ltb→lt b a) (eqb→eq a b)
     go : (less same : Bool) → (T less → b < a) → (T same → a ≡ b) → T (less || (same && true)) → b ≤ a
     go true same l e t = le_of_lt (l tt)
     go false true l e t = le_of_eq (sym (e tt))
+    go false false l e t = elim t [ ]
 
 -- from -n * 2 ^ d to n * 2 ^ d
 upto_opposite : (n : ℕ) (d : ℤ) (x : Float) → T (le (fin true n d) x) → T (le x (fin false n d)) → Upto n d x
@@ -36,6 +37,7 @@ upto_opposite n d (inf true) low high = absurd low
 upto_opposite n d (inf false) low high = absurd high
 upto_opposite n d (fin true m e) low high = at_least (n * up d * down e) (m * up e * down d) low
 upto_opposite n d (fin false m e) low high = at_most (m * up e * down d) (n * up d * down e) high
+upto_opposite n d nan low high = elim low [ ]
 
 -- from 0 to n * 2 ^ d, where the only value with a minus sign is -0
 upto_positive : (n : ℕ) (d : ℤ) (x : Float) → T (le zero_f x) → T (le x (fin false n d)) → Upto n d x
@@ -44,6 +46,7 @@ upto_positive n d (inf true) low high = absurd low
 upto_positive n d (inf false) low high = absurd high
 upto_positive n d (fin true m e) low high = simp (minus_zero m e low, zero-mul) (omega arith)
 upto_positive n d (fin false m e) low high = at_most (m * up e * down d) (n * up d * down e) high
+upto_positive n d nan low high = elim low [ ]
 
 -- ---- the three ranges
 -- both halves of a conjunction that holds
@@ -58,6 +61,8 @@ both_tests x low high h =
 
 small_upto : (k : ℕ) (x : Float) → Upto 1 (pos k) x → Small k x
 small_upto k (fin s m e) p = record { bound = omega arith }
+small_upto k nan p = elim p [ ]
+small_upto k (inf _) p = elim p [ ]
 
 -- -16 to 16
 small_sixteen : (x : Float) → within_of x (neg sixteen_f) sixteen_f ≡ true → Small 4 x
@@ -80,6 +85,8 @@ weight_in_range x h = let t = both_tests x zero_f most_weight h in upto_positive
 -- A weight is at most 1 in size.
 pub small_weight : (x : Float) → Weight x → Small 0 x
 small_weight (fin s m e) p = record { bound = omega arith }
+small_weight nan p = elim p [ ]
+small_weight (inf _) p = elim p [ ]
 
 -- ---- all of them
 -- what `good_conversion` says of the nine numbers

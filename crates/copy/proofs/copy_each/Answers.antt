@@ -1,10 +1,8 @@
 -- The loop keeps `Filled` of the bytes passed.
-use Prim.Native.Nat.{◌-◌}
 use mathlib.Core.Path.{refl, ◌∙◌}
 use native.Mathlib.Omega.{arith}
-use lib.ListN.{length, get_or}
-use borrow.Author.Rules.{rules}
-use Rattle.laws.proofs.Lists.{Filled, fill_starts, fills, fill_ends, listed_again}
+use lib.ListN.{length}
+use Rattle.laws.proofs.Lists.{fill_starts, fills, fill_ends, listed_again}
 use Rattle.copy.proofs.copy_each.Goals as goal
 
 pub loop-i-init : goal.loop-i-init

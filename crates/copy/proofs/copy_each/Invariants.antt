@@ -1,10 +1,7 @@
 -- The loop keeps `Filled` of the bytes passed.
 use Prim.Native.Nat.{◌-◌}
-use mathlib.Core.Path.{refl, ◌∙◌}
-use native.Mathlib.Omega.{arith}
 use lib.ListN.{length, get_or}
-use borrow.Author.Rules.{rules}
-use Rattle.laws.proofs.Lists.{Filled, fill_starts, fills, fill_ends, listed_again}
+use Rattle.laws.proofs.Lists.{Filled}
 use Rattle.copy.proofs.copy_each.Given as goal
 
 abbrev pub invariant-loop-i : goal.invariant-loop-i

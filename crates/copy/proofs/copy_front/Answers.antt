@@ -2,8 +2,7 @@
 use Prim.Native.Nat.{◌+◌, ◌-◌}
 use mathlib.Core.Path.{◌≡◌, refl}
 use native.Mathlib.Omega.{arith}
-use borrow.Author.Rules.{rules}
-use Rattle.copy.proofs.Copied.{Copied, copy_starts, copies, copy_ends}
+use Rattle.copy.proofs.Copied.{copy_starts, copies, copy_ends}
 use Rattle.copy.proofs.copy_front.Goals as goal
 
 pub loop-at-init : goal.loop-at-init

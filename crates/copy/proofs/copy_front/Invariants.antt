@@ -1,9 +1,6 @@
 -- The loop keeps `Copied`: the bytes passed are those of src, the rest is as it was.
-use Prim.Native.Nat.{◌+◌, ◌-◌}
-use mathlib.Core.Path.{◌≡◌, refl}
-use native.Mathlib.Omega.{arith}
-use borrow.Author.Rules.{rules}
-use Rattle.copy.proofs.Copied.{Copied, copy_starts, copies, copy_ends}
+use Prim.Native.Nat.{◌-◌}
+use Rattle.copy.proofs.Copied.{Copied}
 use Rattle.copy.proofs.copy_front.Given as goal
 
 abbrev pub invariant-loop-at : goal.invariant-loop-at

@@ -3,7 +3,6 @@ use mathlib.Core.Path.{◌≡◌, ap, ◌∙◌}
 use native.Mathlib.Omega.{arith}
 use lib.ListN.{length, drop}
 use lib.Seq.{take_at}
-use borrow.Author.Rules.{rules}
 use Rattle.copy.proofs.copy_through.Goals as goal
 
 pub returns : goal.returns

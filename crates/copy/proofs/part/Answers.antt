@@ -1,5 +1,4 @@
 use Prim.Native.Nat.{◌+◌}
-use borrow.Author.Rules.{rules}
 use Rattle.laws.proofs.Lists.{part_held}
 use Rattle.copy.proofs.part.Goals as goal
 

@@ -1,6 +1,5 @@
 -- `float::to_u8` meets its contract: the whole number that it casts is the cut of the argument.
 use mathlib.Core.Path.{◌∙◌}
-use borrow.Author.Rules.{rules}
 use Rattle.float.proofs.Byte.{cast_back}
 use Rattle.float.proofs.to_u8.Goals as goal
 

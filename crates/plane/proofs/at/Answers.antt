@@ -10,7 +10,6 @@ use Rattle.plane.specs.Plane.{value_of}
 use Rattle.plane.specs.Answer.{read_tests, at_no}
 use Rattle.plane.specs.Coordinates.{in_reach, bias_of, unbiased}
 use Rattle.plane.proofs.Coordinates.{unbiased_bias}
-use borrow.Author.Rules.{rules}
 use Rattle.plane.proofs.at.Goals as goal
 
 pub returns-then-no-eq0 : goal.returns-then-no-eq0

@@ -9,7 +9,6 @@ use mir.Val.{Fits, SFits, to_z, of_z}
 use mir.Facts.{to_z-of_z, Fits-nat_abs}
 use Rattle.plane.specs.Coordinates.{in_reach, bias_of}
 use Rattle.plane.proofs.Coordinates.{Reached, reached}
-use borrow.Author.Rules.{rules}
 use Rattle.plane.proofs.biased.Goals as goal
 
 pub overflow_add-result : goal.overflow_add-result

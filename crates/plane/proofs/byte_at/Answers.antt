@@ -1,7 +1,6 @@
 use native.Mathlib.Omega.{arith}
 use lib.ListN.{get_or-eq_default}
 use mathlib.Core.Path.{sym}
-use borrow.Author.Rules.{rules}
 use Rattle.plane.proofs.byte_at.Goals as goal
 
 pub returns-else-i-plane : goal.returns-else-i-plane

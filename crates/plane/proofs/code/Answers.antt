@@ -17,7 +17,6 @@ use Rattle.plane.specs.Plane.{code_of}
 use Rattle.plane.specs.Answer.{read_tests, code_no}
 use Rattle.plane.specs.Coordinates.{inside}
 use Rattle.plane.proofs.Coordinates.{inside_nonneg, inside_below}
-use borrow.Author.Rules.{rules}
 use Rattle.plane.proofs.code.Goals as goal
 
 -- a coordinate inside a plane, as the machine holds it, fits the narrow type

@@ -1,6 +1,5 @@
 use native.Mathlib.Omega.{arith}
 use lib.Pow.{shr_le}
-use borrow.Author.Rules.{rules}
 use Rattle.plane.proofs.Full.{ones_left}
 use Rattle.plane.proofs.full_by.Goals as goal
 

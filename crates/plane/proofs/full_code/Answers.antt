@@ -1,5 +1,4 @@
 use mathlib.Core.Path.{◌∙◌}
-use borrow.Author.Rules.{rules}
 use Rattle.plane.proofs.Full.{full_by_spare}
 use Rattle.plane.proofs.full_code.Goals as goal
 

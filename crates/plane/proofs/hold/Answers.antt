@@ -1,9 +1,7 @@
 use Prim.Native.Nat.{◌-◌}
 use mathlib.Core.Path.{◌≡◌}
-use mathlib.Core.Logic.{⊎_elim}
 use native.Mathlib.Omega.{arith}
 use Rattle.plane.proofs.Coordinates.{held_is}
-use borrow.Author.Rules.{rules}
 use Rattle.plane.proofs.hold.Goals as goal
 use Rattle.plane.proofs.hold.Goals.{else-c-lt-BIAS, then-c-lt-BIAS}
 

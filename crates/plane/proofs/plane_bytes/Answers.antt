@@ -1,4 +1,3 @@
-use borrow.Author.Rules.{rules}
 use Rattle.plane.proofs.plane_bytes.Goals as goal
 
 pub returns : goal.returns

@@ -1,5 +1,4 @@
 use Rattle.laws.specs.Refusal.{lowest}
-use borrow.Author.Rules.{rules}
 use Rattle.plane.proofs.read_no.Goals as goal
 
 pub returns : goal.returns

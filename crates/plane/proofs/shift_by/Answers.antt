@@ -6,7 +6,6 @@ use lib.Dec.{leb}
 use borrow.Author.Tests.{leb-true}
 use Rattle.laws.proofs.Bools.{halves}
 use Rattle.plane.specs.Plane.{biplanar}
-use borrow.Author.Rules.{rules}
 use Rattle.plane.proofs.shift_by.Goals as goal
 
 pub returns-then-is_biplanar-depth : goal.returns-then-is_biplanar-depth

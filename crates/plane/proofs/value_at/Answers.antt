@@ -11,7 +11,6 @@ use Rattle.plane.specs.Plane.{full_code, value_of}
 use Rattle.plane.proofs.Claims.{value_in_unit}
 use Rattle.plane.proofs.Full.{full_by_spare}
 use Rattle.plane.specs.Coordinates.{unbiased}
-use borrow.Author.Rules.{rules}
 use Rattle.plane.proofs.value_at.Goals as goal
 
 in_unit : (bytes : List ℕ) (s : Shape) (x y : ℤ) {r : Float} → r ≡ value_of bytes s x y → (r ≡ value_of bytes s x y) × Unit r

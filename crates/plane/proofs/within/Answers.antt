@@ -1,5 +1,4 @@
 use Rattle.plane.specs.Plane.{good_shape}
-use borrow.Author.Rules.{rules}
 use Rattle.plane.proofs.within.Goals as goal
 
 pub returns : goal.returns

@@ -1,4 +1,3 @@
-use borrow.Author.Rules.{rules}
 use Rattle.plane.proofs.Planes.biplanar.Goals as goal
 
 pub returns : goal.returns

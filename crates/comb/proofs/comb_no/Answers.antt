@@ -1,0 +1,7 @@
+use Rattle.laws.specs.Refusal.{lowest}
+use borrow.Author.Rules.{rules}
+use Rattle.comb.proofs.comb_no.Goals as goal
+
+pub returns : goal.returns
+unfolding lowest
+returns c = cc

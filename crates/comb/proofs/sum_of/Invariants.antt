@@ -1,0 +1,15 @@
+-- The loop keeps `Summed` of the columns passed, once for each half.
+use Prim.Native.Nat.{ℕ, ◌+◌, ◌-◌}
+use mathlib.Core.Path.{sym, ap₂, ◌∙◌}
+use native.Mathlib.Omega.{arith}
+use lib.ListN.{get_or}
+use borrow.Author.Rules.{rules}
+use Rattle.laws.proofs.Sums.{Summed, starts, adds, ends, sum_parts}
+use Rattle.comb.proofs.sum_of.Given as goal
+
+abbrev pub invariant-loop-x : goal.invariant-loop-x
+invariant-loop-x l =
+    Summed 65535 (λ k. get_or l.columns k 0) 128 l.left l.x × Summed 65535 (λ k. get_or l.columns (128 + k) 0) 128 l.right l.x
+
+abbrev pub decreases-loop-x : goal.decreases-loop-x
+decreases-loop-x l = 128 - l.x
