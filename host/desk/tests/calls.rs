@@ -45,8 +45,8 @@ const CHANGES: [(&str, &str, &str, &str); 14] = [
     ),
     (
         "crates.txt",
-        "desk_c staticlib: ",
-        "desk_c: ",
+        "desk_c staticlib: laws ",
+        "desk_c staticlib: copy ",
         "crate desk exports calls",
     ),
     (
