@@ -50,7 +50,7 @@ returns-then-no-eq0 c =
       result_value_2 = ap (λ (v : Float). v ∷ [])
           (c.sample_at.ensures
           ∙ (λ i.
-          sample_in a.making a.before.now a.cur.now a.after.now ((x-placed).is i) ((y-placed).is i)))
+          sample_in a.making a.before.now a.cur.now a.after.now ((x-placed).is i) ((y-placed).is i)));
     }
 
 pub returns-else-no-eq0 : goal.returns-else-no-eq0

@@ -118,7 +118,7 @@ loop-from-preserved c =
     c.requires.paintable.height_high c.requires.paintable.width_high (c.loop-from.invariant.1 c.loop-from-test.true)
     (omega (arith, c.requires.width_in_bounds, c.loop-from.invariant.0.long)) c.at_most-count.ensures in (
       stacks_rows (row_in c.args.recipe (serving_in c.args.before_luma c.args.cur_luma c.args.after_luma) (serving_in c.args.before_cb c.args.cur_cb c.args.after_cb)
-    (serving_in c.args.before_cr c.args.cur_cr c.args.after_cr)) (c.args.recipe.luma.cur.width * 4) (λ y. length_row _ _ _ _ y) c.at_most-count.result c.loop-from.invariant.0 t.inside c.requires.width_in_bounds
+          (serving_in c.args.before_cr c.args.cur_cr c.args.after_cr)) (c.args.recipe.luma.cur.width * 4) (λ y. length_row _ _ _ _ y) c.at_most-count.result c.loop-from.invariant.0 t.inside c.requires.width_in_bounds
           c.bytes_of-at.ensures c.bytes_of.ensures c.paint_group.ensures,
       t.stays-even,
     )

@@ -42,11 +42,11 @@ paint_tile-requires c =
       paintable = c.requires.paintable;
       tile = record {
         inside = record { rows = c.requires.from_value.1; columns = t.inside };
-          few_rows = c.requires.from_value.2;
-          few_columns = t.few;
-          even_row = c.requires.from_value.0;
-          even_column = t.even;
-          room = c.loop-left.invariant.1 ∙ c.requires.from_value.3;
+        few_rows = c.requires.from_value.2;
+        few_columns = t.few;
+        even_row = c.requires.from_value.0;
+        even_column = t.even;
+        room = c.loop-left.invariant.1 ∙ c.requires.from_value.3;
       };
       painted_to = c.loop-left.invariant.0;
     }
