@@ -1,0 +1,6 @@
+use Rattle.fill.proofs.Columns.{column}
+use borrow.Author.Rules.{rules}
+use Rattle.fill.proofs.at.Goals as goal
+
+pub returns : goal.returns
+returns c = λ v from count y h l. column h _ _ l c.requires.3

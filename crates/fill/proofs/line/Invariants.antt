@@ -1,0 +1,17 @@
+use mathlib.Core.Path.{◌≡◌, sym, ◌∙◌}
+use Prim.Native.Nat.{◌+◌, ◌-◌, ◌≤◌, ◌<◌}
+use native.Mathlib.Omega.{arith}
+use borrow.Author.Rules.{rules}
+use lib.IntN.{pos}
+use lib.ListN.{length, take, drop}
+use Rattle.laws.proofs.Lists.{Filled, fill_starts, fill_ends, part_length}
+use Rattle.filter.specs.Making.{sample_in}
+use Rattle.fill.proofs.Tiles.{tile_more}
+use Rattle.fill.proofs.line.Given as goal
+
+abbrev pub invariant-loop-x : goal.invariant-loop-x
+invariant-loop-x l =
+    Filled (λ k. sample_in l.making l.before l.cur l.after (pos (l.left + k)) (pos l.y)) l.initial.out l.out l.x × (length l.rows ≡ 5240)
+
+abbrev pub decreases-loop-x : goal.decreases-loop-x
+decreases-loop-x l = length l.initial.out - l.x

@@ -1,0 +1,7 @@
+use Rattle.filter.specs.Filter.{beyond_of}
+use borrow.Author.Rules.{rules}
+use Rattle.filter.proofs.beyond.Goals as goal
+
+pub returns : goal.returns
+unfolding beyond_of
+returns c = cc

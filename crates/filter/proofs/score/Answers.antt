@@ -1,0 +1,7 @@
+use Rattle.filter.specs.Filter.{score_of}
+use borrow.Author.Rules.{rules}
+use Rattle.filter.proofs.score.Goals as goal
+
+pub returns : goal.returns
+unfolding score_of
+returns c = cc

@@ -1,0 +1,7 @@
+use Rattle.filter.specs.Filter.{wider_of}
+use borrow.Author.Rules.{rules}
+use Rattle.filter.proofs.wider.Goals as goal
+
+pub returns : goal.returns
+unfolding wider_of
+returns c = cc
