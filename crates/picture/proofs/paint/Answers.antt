@@ -1,11 +1,9 @@
 use mathlib.Core.Path.{◌≡◌, ◌∙◌}
-use mathlib.Core.List.{List}
 use Prim.Native.Nat.{ℕ, ◌+◌, ◌-◌, ◌*◌, ◌%◌, ◌≤◌, ◌<◌}
 use native.Mathlib.Nat.{add-mul, mul-le-mul, mul-le-mul_right}
 use native.Mathlib.Omega.{arith}
-use borrow.Author.Rules.{rules}
 use lib.ListN.{length}
-use Rattle.laws.proofs.Lists.{Stacked, stack_starts, stacks_rows, stack_ends}
+use Rattle.laws.proofs.Lists.{stack_starts, stacks_rows, stack_ends}
 use Rattle.laws.proofs.Rows.{length_part}
 use Rattle.picture.specs.Inner.{serving_in, row_in}
 use Rattle.picture.proofs.Painted.{length_row}
@@ -118,7 +116,7 @@ loop-from-preserved c =
     c.requires.paintable.height_high c.requires.paintable.width_high (c.loop-from.invariant.1 c.loop-from-test.true)
     (omega (arith, c.requires.width_in_bounds, c.loop-from.invariant.0.long)) c.at_most-count.ensures in (
       stacks_rows (row_in c.args.recipe (serving_in c.args.before_luma c.args.cur_luma c.args.after_luma) (serving_in c.args.before_cb c.args.cur_cb c.args.after_cb)
-    (serving_in c.args.before_cr c.args.cur_cr c.args.after_cr)) (c.args.recipe.luma.cur.width * 4) (λ y. length_row _ _ _ _ y) c.at_most-count.result c.loop-from.invariant.0 t.inside c.requires.width_in_bounds
+          (serving_in c.args.before_cr c.args.cur_cr c.args.after_cr)) (c.args.recipe.luma.cur.width * 4) (λ y. length_row _ _ _ _ y) c.at_most-count.result c.loop-from.invariant.0 t.inside c.requires.width_in_bounds
           c.bytes_of-at.ensures c.bytes_of.ensures c.paint_group.ensures,
       t.stays-even,
     )

@@ -1,9 +1,6 @@
 use mathlib.Core.Path.{◌≡◌, refl, ◌∙◌}
 use Prim.Native.Nat.{ℕ, ◌+◌, ◌-◌, ◌*◌, ◌%◌, ◌≤◌, ◌<◌}
 use native.Mathlib.Omega.{arith}
-use borrow.Author.Rules.{rules}
-use lib.ListN.{length}
-use Rattle.picture.specs.Inner.{row_in, Painted}
 use Rattle.picture.proofs.Painted.{length_row}
 use Rattle.picture.proofs.Tiles.{painted_none, painted_to, painted_whole}
 use Rattle.picture.proofs.paint_group.Goals as goal
@@ -42,11 +39,11 @@ paint_tile-requires c =
       paintable = c.requires.paintable;
       tile = record {
         inside = record { rows = c.requires.from_value.1; columns = t.inside };
-          few_rows = c.requires.from_value.2;
-          few_columns = t.few;
-          even_row = c.requires.from_value.0;
-          even_column = t.even;
-          room = c.loop-left.invariant.1 ∙ c.requires.from_value.3;
+        few_rows = c.requires.from_value.2;
+        few_columns = t.few;
+        even_row = c.requires.from_value.0;
+        even_column = t.even;
+        room = c.loop-left.invariant.1 ∙ c.requires.from_value.3;
       };
       painted_to = c.loop-left.invariant.0;
     }
