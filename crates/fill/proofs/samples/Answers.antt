@@ -1,16 +1,8 @@
-use mathlib.Core.Path.{◌≡◌, sym, ◌∙◌}
-use mathlib.Core.List.{List}
+use mathlib.Core.Path.{sym, ◌∙◌}
 use native.Mathlib.Omega.{arith}
-use Prim.Native.Nat.{ℕ, ◌+◌, ◌*◌, ◌≤◌, ◌<◌, zero-le}
-use borrow.Author.Rules.{rules}
+use Prim.Native.Nat.{◌+◌, ◌*◌, zero-le}
 use lib.Dec.{lit<}
-use lib.IntN.{pos}
-use lib.ListN.{length}
-use lib.Ieee.{Float}
-use Rattle.laws.specs.Rows.{listed}
 use Rattle.laws.proofs.Lists.{same_listed}
-use Rattle.plane.specs.Plane.{sample_bytes, value_of}
-use Rattle.fill.specs.Lines.{stored_value}
 use Rattle.fill.proofs.Places.{Walk, alone, shared, walk_bytes, walk_pairs, walk_within, walk_value}
 use Rattle.fill.proofs.samples.Goals as goal
 

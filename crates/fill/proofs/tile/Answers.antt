@@ -1,14 +1,8 @@
-use mathlib.Core.Path.{◌≡◌, sym, ◌∙◌}
-use mathlib.Core.List.{List}
-use borrow.Author.Rules.{rules}
+use mathlib.Core.Path.{sym, ◌∙◌}
 use lib.ListN.{length}
-use lib.Ieee.{Float}
 use Rattle.plane.specs.Plane.{value_of}
-use Rattle.filter.specs.declared.Quality.{Quality}
 use Rattle.filter.specs.declared.Quality.TheVariants.{Weave, Bob, Yadif, Bwdif}
-use Rattle.filter.specs.Filter.{Sampler}
-use Rattle.fill.specs.Lines.{tile_of, sample_tile}
-use Rattle.fill.proofs.Chosen.{missing_of, tile_kept, tile_missing}
+use Rattle.fill.proofs.Chosen.{tile_kept, tile_missing}
 use Rattle.fill.proofs.tile.Goals as goal
 
 pub returns-then-kept : goal.returns-then-kept

@@ -12,7 +12,6 @@ use Rattle.filter.specs.Rows.{good_rows}
 use Rattle.filter.specs.Making.{sample_in}
 use Rattle.filter.specs.Answer.{sample_no}
 use Rattle.filter.proofs.Places.{Placed, placed}
-use borrow.Author.Rules.{rules}
 use Rattle.filter.proofs.sample.Goals as goal
 
 pub sample_at-requires : goal.sample_at-requires

@@ -1,5 +1,4 @@
 use mathlib.Core.Bool.{◌&&◌}
-use borrow.Author.Rules.{rules}
 use Rattle.picture.proofs.chroma_fits.Goals as goal
 
 pub returns : goal.returns

@@ -1,5 +1,4 @@
 use mathlib.Core.Bool.{◌&&◌}
-use borrow.Author.Rules.{rules}
 use Rattle.picture.proofs.good_shapes.Goals as goal
 
 pub returns : goal.returns

@@ -1,11 +1,9 @@
 use mathlib.Core.Path.{◌≡◌, ◌∙◌}
-use mathlib.Core.List.{List}
 use Prim.Native.Nat.{ℕ, ◌+◌, ◌-◌, ◌*◌, ◌%◌, ◌≤◌, ◌<◌}
 use native.Mathlib.Nat.{add-mul, mul-le-mul, mul-le-mul_right}
 use native.Mathlib.Omega.{arith}
-use borrow.Author.Rules.{rules}
 use lib.ListN.{length}
-use Rattle.laws.proofs.Lists.{Stacked, stack_starts, stacks_rows, stack_ends}
+use Rattle.laws.proofs.Lists.{stack_starts, stacks_rows, stack_ends}
 use Rattle.laws.proofs.Rows.{length_part}
 use Rattle.picture.specs.Inner.{serving_in, row_in}
 use Rattle.picture.proofs.Painted.{length_row}

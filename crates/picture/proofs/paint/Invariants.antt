@@ -1,14 +1,7 @@
-use mathlib.Core.Path.{◌≡◌, ◌∙◌}
-use mathlib.Core.List.{List}
-use Prim.Native.Nat.{ℕ, ◌+◌, ◌-◌, ◌*◌, ◌%◌, ◌≤◌, ◌<◌}
-use native.Mathlib.Nat.{add-mul, mul-le-mul, mul-le-mul_right}
-use native.Mathlib.Omega.{arith}
-use borrow.Author.Rules.{rules}
-use lib.ListN.{length}
-use Rattle.laws.proofs.Lists.{Stacked, stack_starts, stacks_rows, stack_ends}
-use Rattle.laws.proofs.Rows.{length_part}
-use Rattle.picture.specs.Inner.{serving_in, row_in}
-use Rattle.picture.proofs.Painted.{length_row}
+use mathlib.Core.Path.{◌≡◌}
+use Prim.Native.Nat.{◌-◌, ◌*◌, ◌%◌, ◌<◌}
+use Rattle.laws.proofs.Lists.{Stacked}
+use Rattle.picture.specs.Inner.{row_in}
 use Rattle.picture.proofs.paint.Given as goal
 
 -- the rows so far stand in the output, and the next group starts at an even row

@@ -1,9 +1,6 @@
 use mathlib.Core.Path.{◌≡◌, refl, ◌∙◌}
 use Prim.Native.Nat.{ℕ, ◌+◌, ◌-◌, ◌*◌, ◌%◌, ◌≤◌, ◌<◌}
 use native.Mathlib.Omega.{arith}
-use borrow.Author.Rules.{rules}
-use lib.ListN.{length}
-use Rattle.picture.specs.Inner.{row_in, Painted}
 use Rattle.picture.proofs.Painted.{length_row}
 use Rattle.picture.proofs.Tiles.{painted_none, painted_to, painted_whole}
 use Rattle.picture.proofs.paint_group.Goals as goal

@@ -1,11 +1,7 @@
-use mathlib.Core.Path.{◌≡◌, refl, ◌∙◌}
-use Prim.Native.Nat.{ℕ, ◌+◌, ◌-◌, ◌*◌, ◌%◌, ◌≤◌, ◌<◌}
-use native.Mathlib.Omega.{arith}
-use borrow.Author.Rules.{rules}
+use mathlib.Core.Path.{◌≡◌}
+use Prim.Native.Nat.{◌+◌, ◌-◌, ◌*◌, ◌%◌, ◌≤◌, ◌<◌}
 use lib.ListN.{length}
 use Rattle.picture.specs.Inner.{row_in, Painted}
-use Rattle.picture.proofs.Painted.{length_row}
-use Rattle.picture.proofs.Tiles.{painted_none, painted_to, painted_whole}
 use Rattle.picture.proofs.paint_group.Given as goal
 
 -- the columns so far stand in every row, and the next tile starts at an even column

@@ -1,15 +1,10 @@
 use mathlib.Core.Path.{◌≡◌, refl, sym, ap, ◌∙◌}
-use mathlib.Core.List.{List}
-use Prim.Native.Nat.{ℕ, ◌-◌, ◌*◌, ◌/◌, ◌≤◌, ◌<◌}
+use Prim.Native.Nat.{ℕ, ◌*◌, ◌/◌, ◌≤◌, ◌<◌}
 use native.Mathlib.Nat.{le_of_eq}
 use native.Mathlib.Omega.{arith}
-use borrow.Author.Rules.{rules}
-use lib.ListN.{length, get_or}
-use lib.Ieee.{Float, nan}
-use Rattle.laws.proofs.Lists.{Stacked, stack_starts, stacks, stack_ends, length_laid}
+use lib.ListN.{length}
+use Rattle.laws.proofs.Lists.{stack_starts, stacks, stack_ends, length_laid}
 use Rattle.laws.proofs.Rows.{length_part, over_all}
-use Rattle.colour.specs.declared.Conversion.{Conversion}
-use Rattle.colour.specs.Colour.{converted_of}
 use Rattle.plane.specs.Plane.{half}
 use Rattle.picture.specs.Picture.{pixel_of}
 use Rattle.picture.specs.Inner.{painted_row}

@@ -1,17 +1,11 @@
-use mathlib.Core.Path.{◌≡◌, refl, sym, ap, ◌∙◌}
 use mathlib.Core.List.{List}
-use Prim.Native.Nat.{ℕ, ◌-◌, ◌*◌, ◌/◌, ◌≤◌, ◌<◌}
-use native.Mathlib.Nat.{le_of_eq}
-use native.Mathlib.Omega.{arith}
-use borrow.Author.Rules.{rules}
+use Prim.Native.Nat.{ℕ, ◌-◌, ◌/◌}
 use lib.ListN.{length, get_or}
 use lib.Ieee.{Float, nan}
-use Rattle.laws.proofs.Lists.{Stacked, stack_starts, stacks, stack_ends, length_laid}
-use Rattle.laws.proofs.Rows.{length_part, over_all}
+use Rattle.laws.proofs.Lists.{Stacked}
 use Rattle.colour.specs.declared.Conversion.{Conversion}
 use Rattle.colour.specs.Colour.{converted_of}
 use Rattle.picture.specs.Picture.{pixel_of}
-use Rattle.picture.specs.Inner.{painted_row}
 use Rattle.picture.proofs.paint_row.Given as goal
 
 abbrev pub pixel : Conversion → List Float → List Float → List Float → ℕ → List ℕ

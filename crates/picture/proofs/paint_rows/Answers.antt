@@ -1,15 +1,14 @@
 use mathlib.Core.Path.{◌≡◌, sym, ap, ◌∙◌}
-use Prim.Native.Nat.{ℕ, ◌+◌, ◌-◌, ◌*◌, ◌/◌, ◌≤◌, ◌<◌}
+use Prim.Native.Nat.{ℕ, ◌+◌, ◌*◌, ◌/◌, ◌≤◌, ◌<◌}
 use native.Mathlib.Nat.{mul-le-mul}
 use native.Mathlib.Omega.{arith}
 use mathlib.Core.List.{List}
-use borrow.Author.Rules.{rules}
 use lib.ListN.{length}
 use Rattle.laws.proofs.Lists.{part_length}
 use Rattle.laws.proofs.Rows.{length_part, row_within}
 use Rattle.plane.specs.Plane.{half}
 use Rattle.fill.specs.declared.Place.{Place}
-use Rattle.picture.specs.Inner.{painted_row, painted_at, Tiled, TileFits, TileMade}
+use Rattle.picture.specs.Inner.{painted_row, Tiled, TileFits, TileMade}
 use Rattle.picture.proofs.Painted.{length_painted}
 use Rattle.picture.proofs.Tiles.{tile_starts, tile_row}
 use Rattle.picture.proofs.paint_rows.Goals as goal

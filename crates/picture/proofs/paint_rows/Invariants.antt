@@ -1,16 +1,5 @@
-use mathlib.Core.Path.{◌≡◌, sym, ap, ◌∙◌}
-use Prim.Native.Nat.{ℕ, ◌+◌, ◌-◌, ◌*◌, ◌/◌, ◌≤◌, ◌<◌}
-use native.Mathlib.Nat.{mul-le-mul}
-use native.Mathlib.Omega.{arith}
-use mathlib.Core.List.{List}
-use borrow.Author.Rules.{rules}
-use lib.ListN.{length}
-use Rattle.laws.proofs.Lists.{part_length}
-use Rattle.laws.proofs.Rows.{length_part, row_within}
-use Rattle.plane.specs.Plane.{half}
-use Rattle.picture.specs.Inner.{painted_row, painted_at, Tiled}
-use Rattle.picture.proofs.Painted.{length_painted}
-use Rattle.picture.proofs.Tiles.{tile_starts, tile_row}
+use Prim.Native.Nat.{◌-◌}
+use Rattle.picture.specs.Inner.{painted_at, Tiled}
 use Rattle.picture.proofs.paint_rows.Given as goal
 
 abbrev pub invariant-loop-y : goal.invariant-loop-y

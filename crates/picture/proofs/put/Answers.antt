@@ -1,6 +1,5 @@
 use mathlib.Core.Path.{◌∙◌}
 use mathlib.Core.List.{[], ◌∷◌}
-use borrow.Author.Rules.{rules}
 use Rattle.laws.proofs.Lists.{four}
 use Rattle.picture.proofs.put.Goals as goal
 

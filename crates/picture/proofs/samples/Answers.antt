@@ -1,5 +1,4 @@
 use mathlib.Core.Path.{◌∙◌}
-use borrow.Author.Rules.{rules}
 use lib.ListN.{length}
 use Rattle.picture.proofs.Judged.{part_done, done_written}
 use Rattle.picture.proofs.samples.Goals as goal

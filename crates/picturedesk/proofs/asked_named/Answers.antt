@@ -1,4 +1,3 @@
-use borrow.Author.Rules.{rules}
 use Rattle.picturedesk.proofs.asked_named.Goals as goal
 
 pub returns : goal.returns
