@@ -1,4 +1,4 @@
-use borrow.Author.Tests.{le-leb, lt-leb}
+use borrow.Author.Tests.{le-leb}
 use mathlib.Core.Path.{◌≡◌, refl, sym, ap, subst, ◌∙◌}
 use Prim.Native.Nat.{ℕ, ◌≤◌, ◌<◌}
 use native.Mathlib.Nat.{lt_of_le_of_lt}
@@ -29,7 +29,6 @@ small (pos n) h = record { sfits = lt_of_le_of_lt h (lit< tt) }
 small (negsuc n) h =
     let k : n < 2147483648 = omega arith in
     record { sfits = k }
-
 
 pub returns-in-Slant : goal.returns-in-Slant
 returns-in-Slant c =

@@ -1,8 +1,7 @@
-use mathlib.Core.Path.{◌≡◌, refl, sym, ap, ◌∙◌}
+use mathlib.Core.Path.{◌≡◌, sym, ap, ◌∙◌}
 use mathlib.Core.Bool.{◌&&◌}
 use lib.Dec.{leb}
 use lib.ListN.{length}
-use Rattle.laws.specs.Refusal.{lowest}
 use Rattle.laws.specs.Rows.{over}
 use Rattle.laws.proofs.Refusal.{number_behind, written_alike}
 use Rattle.filter.specs.declared.Making.{Making}
@@ -12,7 +11,6 @@ use Rattle.desk.specs.Filters.{making_named, all_named}
 use Rattle.desk.specs.Inner.{cut_planes}
 use Rattle.desk.proofs.Cut.{plane_number, plane_same}
 use Rattle.desk.proofs.filters.desk_plane.Goals as goal
-
 
 pub returns : goal.returns
 returns c =

@@ -4,7 +4,6 @@ use lib.ListN.{length}
 use mir.Syntax.{w32}
 use mir.Val.{to_z, of_z}
 use mir.Facts.{to_z-of_z}
-use Rattle.laws.specs.Refusal.{lowest}
 use Rattle.laws.proofs.Refusal.{handed_value, handed_refusal, number_behind}
 use Rattle.plane.specs.Answer.{sampled_no, sampled_values}
 use Rattle.filter.specs.declared.Making.{Making}
@@ -14,7 +13,6 @@ use Rattle.desk.specs.Filters.{rows_named, making_named, all_named, sample_no}
 use Rattle.desk.specs.Inner.{cut_planes}
 use Rattle.desk.proofs.Cut.{sample_number, sample_same}
 use Rattle.desk.proofs.filters.desk_sample.Goals as goal
-
 
 pub returns-in-Value : goal.returns-in-Value
 returns-in-Value c =

@@ -1,6 +1,6 @@
 -- `desk::planes::desk_at` meets its contract: the layout's code is tested here, and the rest is `plane::at`'s own answer.
 use native.Mathlib.Omega.{arith}
-use borrow.Author.Tests.{le-leb, lt-leb}
+use borrow.Author.Tests.{le-leb}
 use mathlib.Core.Path.{◌≡◌, refl, ◌∙◌}
 use mathlib.Core.Bool.{◌&&◌}
 use lib.Dec.{leb}
@@ -18,7 +18,6 @@ use Rattle.numbers.specs.Numbers.{shape_named}
 use Rattle.desk.specs.Planes.{at_no}
 use Rattle.desk.proofs.Cut.{read_number, read_value}
 use Rattle.desk.proofs.planes.desk_at.Goals as goal
-
 
 pub returns-in-Value : goal.returns-in-Value
 returns-in-Value c =

@@ -13,7 +13,7 @@ use mir.Syntax.{w16}
 use mir.Val.{Fits}
 use mir.Facts.{to_z-of_z}
 use Rattle.laws.proofs.Bools.{halves}
-use Rattle.laws.proofs.Refusal.{first_passes, rest_passes, stays, written_done}
+use Rattle.laws.proofs.Refusal.{first_passes, rest_passes, written_done}
 use Rattle.plane.specs.Plane.{good_shape, code_of}
 use Rattle.plane.specs.Coordinates.{inside}
 use Rattle.plane.proofs.Bounds.{good_within}
@@ -29,7 +29,6 @@ narrow : (size most : ℕ) (x : ℤ) {z : ℤ} → size ≤ most → most < 6553
 narrow size most x bounded small h e =
     subst (λ (z : ℤ). T (non_neg z) × Fits w16 (nat_abs z)) (sym e)
     (inside_nonneg size x h, record { fits = lt_trans (lt_of_lt_of_le (inside_below size x h) bounded) small })
-
 
 pub overflow_cast-x : goal.overflow_cast-x
 overflow_cast-x c =
