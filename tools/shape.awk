@@ -59,13 +59,16 @@ function shape(whole, definition,   n, word) {
     }
 }
 
-# Tells what the wrong program that ends here adds or drops.
-function judge(   kind, more, told) {
+# Tells what the wrong program that ends here adds or drops. One with a line `longer:` adds something, and drops nothing.
+function judge(   kind, more, told, added) {
     if (wrong == "") return
     for (kind in kinds) {
         more = counts["new", kind] - counts["old", kind]
-        if (more != 0) told = told sprintf("%s %s%d of `%s`", told == "" ? "" : ",", more > 0 ? "+" : "", more, kind)
+        if (more > 0 && longer) added = 1
+        else if (more != 0) told = told sprintf("%s %s%d of `%s`", told == "" ? "" : ",", more > 0 ? "+" : "", more, kind)
     }
+    if (longer && !added) print place ": " wrong ": it adds nothing, so that its line `longer:` says nothing"
+    longer = 0
     if (told != "") print place ": " wrong ": it changes the code's shape:" told
     split("", counts)
     split("", kinds)
@@ -74,6 +77,7 @@ function judge(   kind, more, told) {
 
 FNR == 1 { judge(); file = ""; place = FILENAME }
 /^wrong: / { judge(); wrong = $2; sub(/:$/, "", wrong) }
+/^longer: ./ { longer = 1 }
 /^file: / { file = $2 }
 /^old: / || /^new: / {
     side = substr($0, 1, 3)
