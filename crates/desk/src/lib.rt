@@ -2,7 +2,7 @@
 // plain names. Each answers with the number of docs/RULES.md, "What the desk gets back"; a value goes
 // to a lent place, which a refusal leaves as it was. host/desk declares them for Rust, and its test
 // holds the declarations to these files.
-#![tactic(auto)]
+#![tactic(auto, unfolding(laws::specs::Refusal::lowest))]
 
 pub mod colours;
 pub mod combs;

@@ -2,7 +2,7 @@
 // in its manner: numbers and byte slices, the answer a number of docs/RULES.md, "What the desk gets
 // back", a value to a lent place, which a refusal leaves as it was. Between calls the host keeps the
 // detector in 96 bytes that it lends.
-#![tactic(auto)]
+#![tactic(auto, unfolding(laws::specs::Refusal::lowest))]
 
 ghost use Rattle.std.specs.Prelude.{◌≡◌, ◌≤◌, [], ◌∷◌, ◌++◌, length, replicate};
 ghost use Rattle.laws.specs.Refusal.{lowest, when_done, written};

@@ -1,5 +1,7 @@
 -- Pictures by number (docs/RULES.md, "Colour and comb"; "What the desk gets back": 3 for a code that names nothing).
 use Rattle.std.specs.Prelude.{ℕ, Bool, false, cond, ◌&&◌, List, ◌∷◌, leb, eqb, length}
+use Rattle.std.specs.Borrow.{MutBor}
+use denote.Triple.Both.{Both}
 use Rattle.laws.specs.Lent.{Slice}
 use Rattle.laws.specs.Refusal.{lowest}
 use Rattle.field.specs.declared.Chosen.{Chosen}
@@ -65,10 +67,14 @@ abbrev pub named_tests : ℕ → OutputNumbers → Conversion → FrameNumbers �
 named_tests quality output conversion previous current next f room =
     (3, all_named quality output previous current next) ∷ picture_tests conversion f.previous f.current f.next room
 
+-- The output as an `ensures` has it: `.entry` is what is lent, and its `.now` the bytes that the call finds.
+abbrev pub LentOutput : Type 0 → Type 0
+LentOutput A = Both (MutBor (List ℕ)) A
+
 -- the number, and what the output holds afterwards by the number, of what the call finds
 abbrev pub named_no :
     {A B C D E F G H I J : Type 0} → ℕ → OutputNumbers → Conversion → FrameNumbers → FrameNumbers → FrameNumbers
-    → Slice A → Slice B → Slice C → Slice D → Slice E → Slice F → Slice G → Slice H → Slice I → Slice J → ℕ
+    → Slice A → Slice B → Slice C → Slice D → Slice E → Slice F → Slice G → Slice H → Slice I → LentOutput J → ℕ
 named_no quality output conversion previous current next previous-luma previous-cb previous-cr current-luma current-cb current-cr next-luma next-cb next-cr out =
     lowest
     (named_tests quality output conversion previous current next
@@ -77,7 +83,7 @@ named_no quality output conversion previous current next previous-luma previous-
 
 abbrev pub named_out :
     {A B C D E F G H I J : Type 0} → ℕ → ℕ → OutputNumbers → Conversion → FrameNumbers → FrameNumbers → FrameNumbers
-    → Slice A → Slice B → Slice C → Slice D → Slice E → Slice F → Slice G → Slice H → Slice I → Slice J → List ℕ
+    → Slice A → Slice B → Slice C → Slice D → Slice E → Slice F → Slice G → Slice H → Slice I → LentOutput J → List ℕ
 named_out number quality output conversion previous current next previous-luma previous-cb previous-cr current-luma current-cb current-cr next-luma next-cb next-cr out =
     let asked = asked_named quality output conversion previous current next in
     asked_out number asked

@@ -3,8 +3,8 @@
 // Carried over from core/src/output/video/filter.rs (`Samples`), and changed: depth, component and shift
 // are the shape's, a method takes the struct by value, and what is out of bounds is refused by number.
 //
-// A lent plane kept together with its shape, for a viewer that asks for one sample after another. A
-// function that has such a struct is proved by hand, so each is thin: the work is that of `plane`.
+// A lent plane kept together with its shape, for a viewer that asks for one sample after another. Each
+// function is thin: the work is that of `plane`.
 #![tactic(auto)]
 
 ghost use Rattle.std.specs.Prelude.{◌≡◌};
@@ -52,8 +52,7 @@ impl<'a> Samples<'a> {
     }
 }
 
-// `at` for one that has the plane and the shape apart. No struct is among the parameters, so a caller
-// needs no proof by hand.
+// `at` for one that has the plane and the shape apart.
 pub fn sample_at(plane: &[u8], shape: Shape, x: i32, y: i32) -> Sampled
     ensures { GivesValue result plane.now shape x y }
 {

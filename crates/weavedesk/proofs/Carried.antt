@@ -11,7 +11,6 @@ use Rattle.laws.specs.Refusal.{lowest, written}
 use Rattle.laws.proofs.Rows.{length_over}
 use Rattle.packed.specs.Packed.{packed_of}
 use Rattle.packed.proofs.Claims.{packed_size}
-use Rattle.weaver.specs.declared.Time.TheVariants as time
 use Rattle.weaver.specs.declared.Weaver.{Weaver}
 use Rattle.weaver.specs.Weaver.{empty_weaver, push_weaver, push_store}
 use Rattle.weaver.specs.History as calls

@@ -5,7 +5,7 @@ use Rattle.laws.specs.Lent.{Slice}
 use Rattle.laws.specs.Refusal.{lowest, written}
 use Rattle.field.specs.declared.Parity.{Parity}
 use Rattle.field.specs.Field.{parity_named}
-use Rattle.weave.specs.Weave.{Given, given_of, good_field, chroma_fits, whole, room_for}
+use Rattle.weave.specs.Weave.{Given, given_of, good_field, chroma_fits, whole, room_for, Output}
 use Rattle.weaver.specs.declared.Time.{Time}
 use Rattle.weaver.specs.declared.Time.TheVariants as time
 use Rattle.weaver.specs.declared.Weaver.{Weaver}
@@ -35,10 +35,10 @@ pub record Offer : Type 0 where
   pub cr_room : ℕ
 
 -- both as an export finds them: bytes are read at entry
-abbrev pub lent : {A B : Type 0} → Slice A → Slice B → Lent
+abbrev pub lent : {A B : Type 0} → Output A → Output B → Lent
 lent state store = record { state = state.entry.now; store = store.entry.now }
 
-abbrev pub offer : {A B C D E F : Type 0} → ℕ → ℕ → ℤ → FieldNumbers → Slice A → Slice B → Slice C → Slice D → Slice E → Slice F → Offer
+abbrev pub offer : {A B C D E F : Type 0} → ℕ → ℕ → ℤ → FieldNumbers → Slice A → Slice B → Slice C → Output D → Output E → Output F → Offer
 offer parity timed at shape luma cb cr out_luma out_cb out_cr = record {
   parity = parity;
   timed = timed;

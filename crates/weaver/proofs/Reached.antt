@@ -3,7 +3,7 @@
 use Prim.Native.Nat.{ℕ, zero, suc, ◌+◌, ◌≤◌}
 use native.Mathlib.Omega.{arith}
 use mathlib.Core.Path.{◌≡◌, refl, sym, ap, subst, ◌∙◌}
-use mathlib.Core.Bool.{Bool, true, false, cond, ◌&&◌, and_assoc, and_true}
+use mathlib.Core.Bool.{Bool, true, false, cond, ◌&&◌, and_assoc, and-true}
 use mathlib.Core.List.{List, [], ◌∷◌, ◌++◌}
 use lib.Dec.{leb, eqb}
 use lib.ListN.{length, drop, length-append}
@@ -86,7 +86,7 @@ module _ (room : ℕ) (f : Sent) where
   number_by : (w : Waiting) → kept_bytes (weaver_by w) ≤ room
       → push_no (weaver_by w) f.field f.parity room f.luma_room f.cb_room f.cr_room ≡ refusal_by room w f
   number_by w e =
-      let long = ap (λ (t : Bool). whole f.field && t) (le-leb (kept_bytes (weaver_by w)) room e) ∙ and_true (whole f.field) in
+      let long = ap (λ (t : Bool). whole f.field && t) (le-leb (kept_bytes (weaver_by w)) room e) ∙ and-true (whole f.field) in
       let roomy : cond (fits (weaver_by w) f.field.shape f.parity) out_room field_room ≡ has_room room (mate_of w f) f =
       ap (λ (t : Bool). cond t out_room field_room) (fits_by w f) ∙ room_by w in
       λ i. lowest ((4, good_field f.field.shape) ∷ (5, chroma_fits f.field.shape) ∷ (6, long i) ∷ (7, roomy i) ∷ [])

@@ -1,6 +1,7 @@
 -- What the contracts of inner functions of `weaver` cite, and no other contract.
 use Rattle.std.specs.Prelude.{ℕ, ◌≤◌, ◌≡◌, Bool, true, cond, ◌&&◌, List, [], ◌∷◌, leb, length}
 use Rattle.std.specs.Borrow.{Bor}
+use denote.MutBor.{MutBor}
 use Rattle.plane.specs.Plane.{grid_shape, plane_bytes}
 use Rattle.plane.specs.declared.Grid.{Grid}
 use Rattle.weave.specs.declared.Field.{Field}
@@ -43,5 +44,5 @@ pub record Weavable (first second : Given) (luma_room cb_room cr_room : ℕ) : T
   pub as_bottom : weave_no second first luma_room cb_room cr_room ≡ 0
 
 -- into these outputs
-abbrev pub WeavableInto : Given → Given → Bor (List ℕ) → Bor (List ℕ) → Bor (List ℕ) → Type 0
+abbrev pub WeavableInto : Given → Given → MutBor (List ℕ) → MutBor (List ℕ) → MutBor (List ℕ) → Type 0
 WeavableInto first second luma cb cr = Weavable first second (length luma.now) (length cb.now) (length cr.now)

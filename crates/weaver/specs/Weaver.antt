@@ -1,7 +1,6 @@
 -- The field that waits for its mate (docs/RULES.md, "Fields and readback", "Forms that must change"; the source is `Weaver` in weave.rs): what each
 -- call gives, on every value that the struct can hold.
 use Rattle.std.specs.Prelude.{ℕ, ◌+◌, ◌*◌, Bool, true, false, cond, not, ◌&&◌, List, [], ◌∷◌, ◌++◌, leb, eqb, length, take, drop}
-use Rattle.laws.specs.Lent.{Slice}
 use Rattle.laws.specs.Refusal.{lowest, written}
 use Rattle.laws.specs.Rows.{laid, over}
 use Rattle.field.specs.declared.Parity.{Parity}
@@ -10,7 +9,7 @@ use Rattle.field.specs.Field.{first_row_of}
 use Rattle.plane.specs.Plane.{sample_bytes, half}
 use Rattle.plane.specs.declared.Grid.{Grid}
 use Rattle.weave.specs.declared.Field.{Field}
-use Rattle.weave.specs.Weave.{Given, given_of, line_in, good_field, chroma_fits, whole, room_for, woven_plane}
+use Rattle.weave.specs.Weave.{Given, given_of, line_in, good_field, chroma_fits, whole, room_for, Output, woven_plane}
 use Rattle.weaver.specs.declared.Time.{Time}
 use Rattle.weaver.specs.declared.Time.TheVariants as time
 use Rattle.weaver.specs.declared.Weaver.{Weaver}
@@ -97,7 +96,7 @@ abbrev pub push_no : Weaver → Given → Parity → ℕ → ℕ → ℕ → ℕ
 push_no w g parity store luma_room cb_room cr_room = lowest (push_tests w g parity store luma_room cb_room cr_room)
 
 -- the same of a store and three outputs that are lent
-abbrev pub push_no_of : {A B C D : Type 0} → Weaver → Given → Parity → Slice A → Slice B → Slice C → Slice D → ℕ
+abbrev pub push_no_of : {A B C D : Type 0} → Weaver → Given → Parity → Output A → Output B → Output C → Output D → ℕ
 push_no_of w g parity store luma cb cr =
     push_no w g parity (length store.entry.now) (length luma.entry.now) (length cb.entry.now) (length cr.entry.now)
 

@@ -65,8 +65,7 @@
 //!
 //! The archives keep nothing between two calls: all state is in the bytes that the caller lends. So
 //! any thread may make any call at any time, and a [`Detector`] or a [`Weaver`] may be sent to
-//! another thread, cloned, and dropped anywhere. A thread needs 64 KB of stack for [`picture`] and
-//! [`fill_plane`], and 16 KB for everything else (docs/BENCHMARKS.md, "Stack").
+//! another thread, cloned, and dropped anywhere.
 
 mod colours;
 mod combs;

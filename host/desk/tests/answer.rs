@@ -209,7 +209,7 @@ fn every_fault_is_found() {
     const GOOD: &str = "Woven.[¹](#note-1)\n\n![Woven](pulldown.svg)\n\n## Notes\n\n### Note 1\n\
         - Theorem `WovenAlternates`: [crates/weave/specs/Claims.antt](../crates/weave/specs/Claims.antt)\n\
         - Contract of `weave`: [crates/weave/src/lib.rt](../crates/weave/src/lib.rt)\n\
-        - Definition `wovenPlane`: [crates/weave/specs/Weave.antt](../crates/weave/specs/Weave.antt)\n\
+        - Definition `woven_plane`: [crates/weave/specs/Weave.antt](../crates/weave/specs/Weave.antt)\n\
         - No theorem, runs: [docs/DIFFERENCES.md](DIFFERENCES.md)\n\
         - Does not cover: the deck.\n";
     let root = Path::new(env!("CARGO_MANIFEST_DIR")).join("../..");
@@ -237,7 +237,7 @@ fn every_fault_is_found() {
             "(../crates/plane/specs/Claims",
         ),
         ("Contract of `weave`", "Contract of `weave_plane`"),
-        ("Definition `wovenPlane`", "Definition `wovenPlan`"),
+        ("Definition `woven_plane`", "Definition `woven_plan`"),
         ("(DIFFERENCES.md)", "(DIFFERENCE.md)"),
         ("![Woven](pulldown.svg)", ""),
         ("- Does not cover: the deck.\n", ""),

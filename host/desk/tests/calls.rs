@@ -6,7 +6,7 @@ use std::path::{Path, PathBuf};
 use std::process::Command;
 
 /// A file, what stands in it, what is put in its place, and what is to be told.
-const CHANGES: [(&str, &str, &str, &str); 12] = [
+const CHANGES: [(&str, &str, &str, &str); 14] = [
     (
         "crates/desk/src/combs.rt",
         "    height: u32,\n    depth: u32,",
@@ -21,21 +21,33 @@ const CHANGES: [(&str, &str, &str, &str); 12] = [
     ),
     (
         "crates/desk/src/combs.rt",
-        "#[no_mangle]\npub extern \"C\" fn desk_comb(",
+        "#[unsafe(no_mangle)]\npub extern \"C\" fn desk_comb(",
         "pub extern \"C\" fn desk_comb(",
-        "expected `#[no_mangle]` above each",
+        "expected `#[unsafe(no_mangle)]` above each",
     ),
     (
         "crates/desk/src/combs.rt",
-        " Numbers 4 and 6.\n#[no_mangle]\npub extern \"C\" fn desk_comb(",
-        "\n#[no_mangle]\npub extern \"C\" fn desk_comb(",
+        " Numbers 4 and 6.\n#[unsafe(no_mangle)]\npub extern \"C\" fn desk_comb(",
+        "\n#[unsafe(no_mangle)]\npub extern \"C\" fn desk_comb(",
         "the comment of desk_comb does not end with its refusals",
     ),
     (
         "crates/desk/src/combs.rt",
-        " Numbers 4 and 6.\n#[no_mangle]\npub extern \"C\" fn desk_comb(",
-        " Numbers 4, 5 and 6.\n#[no_mangle]\npub extern \"C\" fn desk_comb(",
+        " Numbers 4 and 6.\n#[unsafe(no_mangle)]\npub extern \"C\" fn desk_comb(",
+        " Numbers 4, 5 and 6.\n#[unsafe(no_mangle)]\npub extern \"C\" fn desk_comb(",
         "host/desk/src/calls.rs is not what the exports make of it",
+    ),
+    (
+        "crates/desk_c/src/lib.rt",
+        "desk::combs::desk_comb(plane, width, height,",
+        "desk::combs::desk_comb(plane, height, width,",
+        "crates/desk_c/src/lib.rt is not what the exports make of it",
+    ),
+    (
+        "crates.txt",
+        "desk_c staticlib: laws ",
+        "desk_c staticlib: copy ",
+        "crate desk exports calls",
     ),
     (
         "host/differ/src/runs.rs",
@@ -45,14 +57,14 @@ const CHANGES: [(&str, &str, &str, &str); 12] = [
     ),
     (
         "crates/filmdesk/src/lib.rt",
-        "    ensures { λ r. ⌜ now (busy .exit) ≡",
-        "    ensures { λ r. ⌜ now (total .exit) ≡",
+        "    ensures busy_after { busy.new ≡",
+        "    ensures busy_after { total.new ≡",
         "the clauses of desk_busy are about result, total, total",
     ),
     (
         "crates/unique/proofs/Plane.antt",
-        "use Rattle·plane.proofs.code.Reads as code",
-        "use Rattle·plane.proofs.at.Reads as code",
+        "use Rattle.plane.proofs.code.Reads as code",
+        "use Rattle.plane.proofs.at.Reads as code",
         "plane::code has no lemma",
     ),
     (
@@ -118,7 +130,9 @@ fn copied(from: &Path, to: &Path) {
     if from.is_dir() {
         for entry in fs::read_dir(from).expect("a folder") {
             let name = entry.expect("an entry").file_name();
-            copied(&from.join(&name), &to.join(&name));
+            if name != "out" {
+                copied(&from.join(&name), &to.join(&name));
+            }
         }
         return;
     }

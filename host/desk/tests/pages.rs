@@ -101,7 +101,7 @@ fn files_under(folder: &Path) -> Vec<PathBuf> {
     for entry in fs::read_dir(folder).expect("a folder can be read") {
         let path = entry.expect("an entry of a folder").path();
         if path.is_dir() {
-            if path.file_name() != Some("target".as_ref()) {
+            if !["target", "out"].iter().any(|built| path.ends_with(built)) {
                 found.extend(files_under(&path));
             }
         } else {

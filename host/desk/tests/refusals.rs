@@ -22,8 +22,8 @@ const KEPT: [(&str, &str, &str); 8] = [
     (CODE, "add(out, b\" drop \")", "add(out, b\" none, for \")"),
     (
         DEFINITION,
-        "f s = (s .height - 1) * k",
-        "f s = (s .height - 0) * s .stride",
+        "f s = (s.height - 1) * k",
+        "f s = (s.height - 0) * s.stride",
     ),
     (
         DEFINITION,
@@ -56,8 +56,8 @@ const BROKEN: [(&str, &str, &str); 18] = [
     ),
     (
         DEFINITION,
-        "f s = (s .height - 1) * k",
-        "f s = s .height * k",
+        "f s = (s.height - 1) * k",
+        "f s = s.height * k",
     ),
     (DEFINITION, "meets n ≡ m", "meets n ≡ suc m"),
 ];

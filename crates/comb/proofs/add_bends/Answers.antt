@@ -1,12 +1,8 @@
 -- The loop keeps `Filled` of the columns passed.
-use Prim.Native.Nat.{ℕ, ◌+◌, ◌-◌}
+use Prim.Native.Nat.{ℕ, ◌+◌}
 use mathlib.Core.Path.{ap₂}
 use native.Mathlib.Omega.{arith}
-use lib.ListN.{length, get_or}
-use borrow.Author.Rules.{rules}
-use Rattle.laws.proofs.Lists.{Filled, fill_starts, fills, fill_reads, fill_ends}
-use Rattle.comb.specs.Rows.{bend_in}
-use Rattle.comb.specs.declared.Kind.TheVariants.{Cut}
+use Rattle.laws.proofs.Lists.{fill_starts, fills, fill_reads, fill_ends}
 use Rattle.comb.proofs.Rows.{same_bend}
 use Rattle.comb.proofs.Columns.{bend_at_most}
 use Rattle.comb.proofs.add_bends.Goals as goal

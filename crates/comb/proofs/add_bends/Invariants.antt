@@ -1,14 +1,9 @@
 -- The loop keeps `Filled` of the columns passed.
-use Prim.Native.Nat.{ℕ, ◌+◌, ◌-◌}
-use mathlib.Core.Path.{ap₂}
-use native.Mathlib.Omega.{arith}
+use Prim.Native.Nat.{◌+◌, ◌-◌}
 use lib.ListN.{length, get_or}
-use borrow.Author.Rules.{rules}
-use Rattle.laws.proofs.Lists.{Filled, fill_starts, fills, fill_reads, fill_ends}
+use Rattle.laws.proofs.Lists.{Filled}
 use Rattle.comb.specs.Rows.{bend_in}
 use Rattle.comb.specs.declared.Kind.TheVariants.{Cut}
-use Rattle.comb.proofs.Rows.{same_bend}
-use Rattle.comb.proofs.Columns.{bend_at_most}
 use Rattle.comb.proofs.add_bends.Given as goal
 
 abbrev pub invariant-loop-x : goal.invariant-loop-x

@@ -1,10 +1,7 @@
 -- The loop keeps `Filled` of the columns passed.
-use Prim.Native.Nat.{◌-◌}
 use native.Mathlib.Omega.{arith}
 use mathlib.Core.Path.{refl}
-use lib.ListN.{length}
-use borrow.Author.Rules.{rules}
-use Rattle.laws.proofs.Lists.{Filled, fill_starts, fills, fill_ends}
+use Rattle.laws.proofs.Lists.{fill_starts, fills, fill_ends}
 use Rattle.comb.proofs.clear.Goals as goal
 
 pub loop-x-init : goal.loop-x-init

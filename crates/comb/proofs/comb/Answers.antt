@@ -1,6 +1,5 @@
 use native.Mathlib.Omega.{arith}
 use lib.ListN.{length}
-use borrow.Author.Rules.{rules}
 use Rattle.laws.proofs.Refusal.{gives, refuses}
 use Rattle.plane.specs.Claims.{AllBytes}
 use Rattle.comb.specs.Answer.{comb_no}

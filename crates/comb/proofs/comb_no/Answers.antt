@@ -1,5 +1,4 @@
 use Rattle.laws.specs.Refusal.{lowest}
-use borrow.Author.Rules.{rules}
 use Rattle.comb.proofs.comb_no.Goals as goal
 
 pub returns : goal.returns

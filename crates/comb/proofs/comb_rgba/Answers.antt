@@ -1,5 +1,4 @@
 use lib.ListN.{length}
-use borrow.Author.Rules.{rules}
 use Rattle.laws.proofs.Refusal.{gives, refuses}
 use Rattle.comb.proofs.Codes.{rgba_narrow, rgba_long, rgba_total}
 use Rattle.comb.proofs.comb_rgba.Goals as goal

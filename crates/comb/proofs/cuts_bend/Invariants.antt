@@ -1,11 +1,8 @@
 -- The loop keeps `Tallied` of the columns passed.
 use Prim.Native.Nat.{◌-◌}
-use native.Mathlib.Omega.{arith}
-use borrow.Author.Rules.{rules}
 use Rattle.comb.specs.Rows.{bend_in, in_all}
 use Rattle.comb.specs.declared.Kind.TheVariants.{Cut}
-use Rattle.comb.proofs.Columns.{cut_row_fits, Tallied, tally_starts, tally_ends}
-use Rattle.comb.proofs.Rows.{tile_rows, adds_tile}
+use Rattle.comb.proofs.Columns.{Tallied}
 use Rattle.comb.proofs.cuts_bend.Given as goal
 
 abbrev pub invariant-loop-x : goal.invariant-loop-x

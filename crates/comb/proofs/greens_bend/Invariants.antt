@@ -1,11 +1,8 @@
 -- The loop keeps `Summed` of the columns passed.
 use Prim.Native.Nat.{◌-◌}
-use native.Mathlib.Omega.{arith}
-use borrow.Author.Rules.{rules}
-use Rattle.laws.proofs.Sums.{Summed, starts, adds, ends}
+use Rattle.laws.proofs.Sums.{Summed}
 use Rattle.comb.specs.Rows.{bend_in}
 use Rattle.comb.specs.declared.Kind.TheVariants.{Green}
-use Rattle.comb.proofs.Rows.{same_bend}
 use Rattle.comb.proofs.greens_bend.Given as goal
 
 abbrev pub invariant-loop-x : goal.invariant-loop-x

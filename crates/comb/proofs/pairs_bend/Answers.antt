@@ -1,10 +1,6 @@
 -- The loop keeps `Summed` of the columns passed.
-use Prim.Native.Nat.{◌-◌}
 use native.Mathlib.Omega.{arith}
-use borrow.Author.Rules.{rules}
-use Rattle.laws.proofs.Sums.{Summed, starts, adds, ends}
-use Rattle.comb.specs.Rows.{bend_in}
-use Rattle.comb.specs.declared.Kind.TheVariants.{Pair}
+use Rattle.laws.proofs.Sums.{starts, adds, ends}
 use Rattle.comb.proofs.Rows.{same_bend}
 use Rattle.comb.proofs.pairs_bend.Goals as goal
 

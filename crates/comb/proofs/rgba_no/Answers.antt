@@ -2,7 +2,6 @@ use Prim.Native.Nat.{◌*◌, ◌≤◌}
 use native.Mathlib.Nat.{mul-le-mul}
 use native.Mathlib.Omega.{arith}
 use Rattle.laws.specs.Refusal.{lowest}
-use borrow.Author.Rules.{rules}
 use Rattle.comb.proofs.rgba_no.Goals as goal
 
 pub overflow_mul-height : goal.overflow_mul-height

@@ -1,7 +1,5 @@
-use Prim.Native.Nat.{ℕ}
 use native.Mathlib.Omega.{arith}
 use Rattle.laws.specs.Sums.{sum_over}
-use Rattle.comb.specs.declared.Kind.{Kind}
 use Rattle.comb.specs.declared.Kind.TheVariants.{Byte, Pair, Green}
 use Rattle.comb.specs.Rows.{bend_in}
 use Rattle.comb.proofs.Columns.{adds_sum}

@@ -1,10 +1,9 @@
 -- The loop keeps `Summed` of the columns passed, once for each half.
-use Prim.Native.Nat.{ℕ, ◌+◌, ◌-◌}
+use Prim.Native.Nat.{ℕ, ◌+◌}
 use mathlib.Core.Path.{sym, ap₂, ◌∙◌}
 use native.Mathlib.Omega.{arith}
 use lib.ListN.{get_or}
-use borrow.Author.Rules.{rules}
-use Rattle.laws.proofs.Sums.{Summed, starts, adds, ends, sum_parts}
+use Rattle.laws.proofs.Sums.{starts, adds, ends, sum_parts}
 use Rattle.comb.proofs.sum_of.Goals as goal
 
 pub loop-x-init : goal.loop-x-init
@@ -38,11 +37,10 @@ pub loop-x-smaller : goal.loop-x-smaller
 loop-x-smaller c = omega arith
 
 pub loop-x-preserved : goal.loop-x-preserved
-loop-x-preserved c =
-    (
-      adds c.loop-x.invariant.0 (omega arith) c.wider-left.ensures.1 c.wider-left.ensures.0,
-      adds c.loop-x.invariant.1 (omega arith) c.wider-right.ensures.1 c.wider-right.ensures.0,
-    )
+loop-x-preserved c = (
+  adds c.loop-x.invariant.0 (omega arith) c.wider-left.ensures.1 c.wider-left.ensures.0,
+  adds c.loop-x.invariant.1 (omega arith) c.wider-right.ensures.1 c.wider-right.ensures.0,
+)
 
 pub overflow_add-result : goal.overflow_add-result
 overflow_add-result c = omega arith

@@ -1,10 +1,7 @@
 -- The loop keeps `Summed` of the columns passed, once for each half.
-use Prim.Native.Nat.{ℕ, ◌+◌, ◌-◌}
-use mathlib.Core.Path.{sym, ap₂, ◌∙◌}
-use native.Mathlib.Omega.{arith}
+use Prim.Native.Nat.{◌+◌, ◌-◌}
 use lib.ListN.{get_or}
-use borrow.Author.Rules.{rules}
-use Rattle.laws.proofs.Sums.{Summed, starts, adds, ends, sum_parts}
+use Rattle.laws.proofs.Sums.{Summed}
 use Rattle.comb.proofs.sum_of.Given as goal
 
 abbrev pub invariant-loop-x : goal.invariant-loop-x

@@ -1,7 +1,6 @@
 use Prim.Native.Nat.{ℕ, ◌+◌, ◌-◌}
 use mathlib.Core.Path.{ap, ◌∙◌}
 use native.Mathlib.Omega.{arith}
-use borrow.Author.Rules.{rules}
 use Rattle.laws.specs.Sums.{sum_over}
 use Rattle.laws.proofs.Lists.{front_length}
 use Rattle.comb.specs.Rows.{bend_in}

@@ -1,5 +1,4 @@
 use native.Mathlib.Omega.{arith}
-use borrow.Author.Rules.{rules}
 use Rattle.comb.proofs.Columns.{moved}
 use Rattle.comb.proofs.with_room.Goals as goal
 

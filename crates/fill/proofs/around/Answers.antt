@@ -2,7 +2,6 @@ use mathlib.Core.Path.{sym, ◌∙◌}
 use native.Mathlib.Omega.{arith}
 use lib.IntN.{pos, ◌+ℤ◌, ◌-ℤ◌}
 use Rattle.fill.proofs.Expanded.{under_more, row_stays, held_up}
-use borrow.Author.Rules.{rules}
 use Rattle.fill.proofs.around.Goals as goal
 
 pub returns : goal.returns

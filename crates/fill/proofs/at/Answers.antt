@@ -1,5 +1,4 @@
 use Rattle.fill.proofs.Columns.{column}
-use borrow.Author.Rules.{rules}
 use Rattle.fill.proofs.at.Goals as goal
 
 pub returns : goal.returns

@@ -1,13 +1,10 @@
-use mathlib.Core.Path.{◌≡◌, refl, ◌∙◌}
-use Prim.Native.Nat.{◌+◌, ◌-◌, ◌≤◌, zero-le}
+use mathlib.Core.Path.{refl, ◌∙◌}
+use Prim.Native.Nat.{◌+◌, zero-le}
 use native.Mathlib.Omega.{arith}
-use borrow.Author.Rules.{rules}
 use lib.IntN.{pos}
 use lib.ListN.{length, length-set}
-use Rattle.laws.proofs.Lists.{Filled, fill_starts, fills, fill_ends}
+use Rattle.laws.proofs.Lists.{fill_starts, fills, fill_ends}
 use Rattle.plane.specs.Plane.{value_of}
-use Rattle.filter.specs.Filter.{Sampler, one, bob_of}
-use Rattle.fill.specs.Rows.{Around}
 use Rattle.fill.proofs.Slants.{bob_is}
 use Rattle.fill.proofs.bob.Goals as goal
 

@@ -1,14 +1,10 @@
-use mathlib.Core.Path.{◌≡◌, refl, ◌∙◌}
-use Prim.Native.Nat.{◌+◌, ◌-◌, ◌≤◌, zero-le}
-use native.Mathlib.Omega.{arith}
-use borrow.Author.Rules.{rules}
+use mathlib.Core.Path.{◌≡◌}
+use Prim.Native.Nat.{◌+◌, ◌-◌, ◌≤◌}
 use lib.IntN.{pos}
-use lib.ListN.{length, length-set}
-use Rattle.laws.proofs.Lists.{Filled, fill_starts, fills, fill_ends}
-use Rattle.plane.specs.Plane.{value_of}
+use lib.ListN.{length}
+use Rattle.laws.proofs.Lists.{Filled}
 use Rattle.filter.specs.Filter.{Sampler, one, bob_of}
 use Rattle.fill.specs.Rows.{Around}
-use Rattle.fill.proofs.Slants.{bob_is}
 use Rattle.fill.proofs.bob.Given as goal
 
 abbrev pub invariant-loop-x : goal.invariant-loop-x

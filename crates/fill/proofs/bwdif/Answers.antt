@@ -1,13 +1,11 @@
-use mathlib.Core.Path.{◌≡◌, refl, ◌∙◌, ap}
-use Prim.Native.Nat.{◌+◌, ◌-◌, ◌≤◌, zero-le}
+use mathlib.Core.Path.{refl, ◌∙◌, ap}
+use Prim.Native.Nat.{◌+◌, zero-le}
 use native.Mathlib.Omega.{arith}
-use borrow.Author.Rules.{rules}
 use lib.IntN.{pos}
 use lib.ListN.{length, length-set}
-use Rattle.laws.proofs.Lists.{Filled, fill_starts, fills, fill_ends}
+use Rattle.laws.proofs.Lists.{fill_starts, fills, fill_ends}
 use Rattle.plane.specs.Plane.{value_of}
-use Rattle.filter.specs.Filter.{Sampler, three, cubic_of, edge_of, in_motion_of, far_of, bwdif_of}
-use Rattle.fill.specs.Rows.{Around, Motion}
+use Rattle.filter.specs.Filter.{three, cubic_of, edge_of, in_motion_of, far_of, bwdif_of}
 use Rattle.fill.specs.declared.Pick.{Pick}
 use Rattle.fill.proofs.Expanded.{motion_stays}
 use Rattle.fill.proofs.bwdif.Goals as goal

@@ -3,7 +3,6 @@ use Prim.Native.Nat.{ℕ, ◌+◌, ◌-◌, ◌≤◌}
 use native.Mathlib.Omega.{arith}
 use lib.ListN.{length}
 use Rattle.fill.proofs.Expanded.{in_order, lent_listed, expanded}
-use borrow.Author.Rules.{rules}
 use Rattle.fill.proofs.expand.Goals as goal
 
 pub returns : goal.returns

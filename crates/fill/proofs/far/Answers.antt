@@ -3,7 +3,6 @@ use lib.IntN.{pos, ◌+ℤ◌, ◌-ℤ◌}
 use lib.Ieee.{binary32, add}
 use Rattle.fill.proofs.Columns.{slanting}
 use Rattle.fill.proofs.Slants.{read_as}
-use borrow.Author.Rules.{rules}
 use Rattle.fill.proofs.far.Goals as goal
 
 pub returns : goal.returns

@@ -4,7 +4,6 @@ use lib.IntN.{pos, ◌+ℤ◌, ◌-ℤ◌}
 use Rattle.filter.specs.Filter.{one}
 use Rattle.filter.proofs.Motion.{joined}
 use Rattle.fill.proofs.Slants.{here}
-use borrow.Author.Rules.{rules}
 use Rattle.fill.proofs.in_motion.Goals as goal
 
 pub returns : goal.returns

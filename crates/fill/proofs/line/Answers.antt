@@ -1,10 +1,9 @@
 use mathlib.Core.Path.{◌≡◌, sym, ◌∙◌}
 use Prim.Native.Nat.{◌+◌, ◌-◌, ◌≤◌, ◌<◌}
 use native.Mathlib.Omega.{arith}
-use borrow.Author.Rules.{rules}
 use lib.IntN.{pos}
 use lib.ListN.{length, take, drop}
-use Rattle.laws.proofs.Lists.{Filled, fill_starts, fill_ends, part_length}
+use Rattle.laws.proofs.Lists.{fill_starts, fill_ends, part_length}
 use Rattle.filter.specs.Making.{sample_in}
 use Rattle.fill.proofs.Tiles.{tile_more}
 use Rattle.fill.proofs.line.Goals as goal

@@ -1,12 +1,9 @@
-use mathlib.Core.Path.{◌≡◌, sym, ◌∙◌}
-use Prim.Native.Nat.{◌+◌, ◌-◌, ◌≤◌, ◌<◌}
-use native.Mathlib.Omega.{arith}
-use borrow.Author.Rules.{rules}
+use mathlib.Core.Path.{◌≡◌}
+use Prim.Native.Nat.{◌+◌, ◌-◌}
 use lib.IntN.{pos}
-use lib.ListN.{length, take, drop}
-use Rattle.laws.proofs.Lists.{Filled, fill_starts, fill_ends, part_length}
+use lib.ListN.{length}
+use Rattle.laws.proofs.Lists.{Filled}
 use Rattle.filter.specs.Making.{sample_in}
-use Rattle.fill.proofs.Tiles.{tile_more}
 use Rattle.fill.proofs.line.Given as goal
 
 abbrev pub invariant-loop-x : goal.invariant-loop-x

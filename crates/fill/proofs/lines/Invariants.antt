@@ -1,17 +1,8 @@
-use mathlib.Core.Path.{◌≡◌, refl, ap, ◌∙◌}
-use mathlib.Core.List.{List}
-use Prim.Native.Nat.{ℕ, ◌+◌, ◌-◌, ◌*◌, ◌≤◌}
-use native.Mathlib.Nat.{mul-le-mul}
-use native.Mathlib.Omega.{arith}
-use borrow.Author.Rules.{rules}
-use lib.ListN.{length, length-replicate}
-use lib.Seq.{length-take-le}
-use lib.Ieee.{Float}
-use Rattle.laws.proofs.Lists.{length_listed, Stacked, stack_starts, stacks, stack_ends}
-use Rattle.laws.proofs.Rows.{length_part, row_within}
-use Rattle.float.specs.Float.{zero_f}
+use mathlib.Core.Path.{◌≡◌}
+use Prim.Native.Nat.{◌+◌, ◌-◌}
+use lib.ListN.{length}
+use Rattle.laws.proofs.Lists.{Stacked}
 use Rattle.fill.specs.Lines.{sample_tile}
-use Rattle.fill.proofs.Expanded.{spliced}
 use Rattle.fill.proofs.lines.Given as goal
 
 abbrev pub invariant-loop-y : goal.invariant-loop-y

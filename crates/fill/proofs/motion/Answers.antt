@@ -1,7 +1,6 @@
 use mathlib.Core.Path.{◌∙◌}
 use native.Mathlib.Omega.{arith}
 use Rattle.fill.proofs.Expanded.{around_stays, trio_stays}
-use borrow.Author.Rules.{rules}
 use Rattle.fill.proofs.motion.Goals as goal
 
 pub returns : goal.returns

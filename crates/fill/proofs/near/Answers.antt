@@ -4,7 +4,6 @@ use lib.Ieee.{binary32, add}
 use Rattle.filter.specs.Filter.{one, near_of}
 use Rattle.fill.proofs.Columns.{slanting}
 use Rattle.fill.proofs.Slants.{read_as}
-use borrow.Author.Rules.{rules}
 use Rattle.fill.proofs.near.Goals as goal
 
 pub returns : goal.returns

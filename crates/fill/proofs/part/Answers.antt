@@ -6,7 +6,6 @@ use lib.ListN.{length}
 use Rattle.laws.proofs.Refusal.{written_done, stays}
 use Rattle.fill.specs.Fill.{part_no}
 use Rattle.fill.proofs.Judged.{number_is, judged}
-use borrow.Author.Rules.{rules}
 use Rattle.fill.proofs.part.Goals as goal
 
 pub lines-requires : goal.lines-requires

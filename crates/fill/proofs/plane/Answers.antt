@@ -6,7 +6,6 @@ use Rattle.laws.specs.Refusal.{written}
 use Rattle.laws.specs.Rows.{over}
 use Rattle.plane.specs.Plane.{value_of}
 use Rattle.fill.proofs.Judged.{whole_number, whole_lines}
-use borrow.Author.Rules.{rules}
 use Rattle.fill.proofs.plane.Goals as goal
 
 pub returns : goal.returns

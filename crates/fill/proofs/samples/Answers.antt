@@ -1,16 +1,8 @@
-use mathlib.Core.Path.{◌≡◌, sym, ◌∙◌}
-use mathlib.Core.List.{List}
+use mathlib.Core.Path.{sym, ◌∙◌}
 use native.Mathlib.Omega.{arith}
-use Prim.Native.Nat.{ℕ, ◌+◌, ◌*◌, ◌≤◌, ◌<◌, zero-le}
-use borrow.Author.Rules.{rules}
+use Prim.Native.Nat.{◌+◌, ◌*◌, zero-le}
 use lib.Dec.{lit<}
-use lib.IntN.{pos}
-use lib.ListN.{length}
-use lib.Ieee.{Float}
-use Rattle.laws.specs.Rows.{listed}
 use Rattle.laws.proofs.Lists.{same_listed}
-use Rattle.plane.specs.Plane.{sample_bytes, value_of}
-use Rattle.fill.specs.Lines.{stored_value}
 use Rattle.fill.proofs.Places.{Walk, alone, shared, walk_bytes, walk_pairs, walk_within, walk_value}
 use Rattle.fill.proofs.samples.Goals as goal
 
@@ -18,7 +10,7 @@ pub scan-requires : goal.scan-requires
 scan-requires c =
     let a = c.args in
     let w : Walk a.s a.row (c.start-at.result + c.component_of-component.result) 1 8 0 255 =
-      walk_bytes _ _ c.start-at.ensures.0 c.component_of-component.ensures.0 c.if-s-le8.true (sym (alone c.args.s.layout c.components_of-shared.ensures.0 c.if-shared-le1.true))
+    walk_bytes _ _ c.start-at.ensures.0 c.component_of-component.ensures.0 c.if-s-le8.true (sym (alone c.args.s.layout c.components_of-shared.ensures.0 c.if-shared-le1.true))
     in
     record {
       dst_bound = (omega (arith, c.requires.row_lt_height.1, c.requires.lent.width_most), lit< tt, zero-le);
@@ -29,7 +21,7 @@ pub returns-then-shared-le1 : goal.returns-then-shared-le1
 returns-then-shared-le1 c =
     let a = c.args in
     let w : Walk a.s a.row (c.start-at.result + c.component_of-component.result) 1 8 0 255 =
-      walk_bytes _ _ c.start-at.ensures.0 c.component_of-component.ensures.0 c.if-s-le8.true (sym (alone c.args.s.layout c.components_of-shared.ensures.0 c.if-shared-le1.true))
+    walk_bytes _ _ c.start-at.ensures.0 c.component_of-component.ensures.0 c.if-s-le8.true (sym (alone c.args.s.layout c.components_of-shared.ensures.0 c.if-shared-le1.true))
     in
     c.scan.ensures
     ∙ same_listed _ _ _
@@ -39,7 +31,7 @@ pub scan-requires-then-s-le8 : goal.scan-requires-then-s-le8
 scan-requires-then-s-le8 c =
     let a = c.args in
     let w : Walk a.s a.row (c.start-at.result + c.component_of-component.result) 2 8 0 255 =
-      walk_bytes _ _ c.start-at.ensures.0 c.component_of-component.ensures.0 c.if-s-le8.true (sym (shared c.args.s.layout c.components_of-shared.ensures.0 c.components_of-shared.ensures.1 c.if-shared-le1.false))
+    walk_bytes _ _ c.start-at.ensures.0 c.component_of-component.ensures.0 c.if-s-le8.true (sym (shared c.args.s.layout c.components_of-shared.ensures.0 c.components_of-shared.ensures.1 c.if-shared-le1.false))
     in
     record {
       dst_bound = (omega (arith, c.requires.row_lt_height.1, c.requires.lent.width_most), lit< tt, zero-le);
@@ -50,7 +42,7 @@ pub returns-then-s-le8 : goal.returns-then-s-le8
 returns-then-s-le8 c =
     let a = c.args in
     let w : Walk a.s a.row (c.start-at.result + c.component_of-component.result) 2 8 0 255 =
-      walk_bytes _ _ c.start-at.ensures.0 c.component_of-component.ensures.0 c.if-s-le8.true (sym (shared c.args.s.layout c.components_of-shared.ensures.0 c.components_of-shared.ensures.1 c.if-shared-le1.false))
+    walk_bytes _ _ c.start-at.ensures.0 c.component_of-component.ensures.0 c.if-s-le8.true (sym (shared c.args.s.layout c.components_of-shared.ensures.0 c.components_of-shared.ensures.1 c.if-shared-le1.false))
     in
     c.scan-then-s-le8.ensures
     ∙ same_listed _ _ _
@@ -60,7 +52,7 @@ pub scan-requires-then-shared-le1-2 : goal.scan-requires-then-shared-le1-2
 scan-requires-then-shared-le1-2 c =
     let a = c.args in
     let w : Walk a.s a.row (c.start-at.result + 2 * c.component_of-component.result) 2 16 c.shift_of-shift.result c.full_code-full.result =
-      walk_pairs _ _ c.start-at.ensures.0 c.component_of-component.ensures.0 c.if-s-le8.false (rw (alone c.args.s.layout c.components_of-shared.ensures.0 c.if-shared-le1-2.true)) c.shift_of-shift.ensures.0 c.full_code-full.ensures
+    walk_pairs _ _ c.start-at.ensures.0 c.component_of-component.ensures.0 c.if-s-le8.false (rw (alone c.args.s.layout c.components_of-shared.ensures.0 c.if-shared-le1-2.true)) c.shift_of-shift.ensures.0 c.full_code-full.ensures
     in
     record {
       dst_bound = (omega (arith, c.requires.row_lt_height.1, c.requires.lent.width_most), lit< tt, c.shift_of-shift.ensures.1);
@@ -71,7 +63,7 @@ pub returns-then-shared-le1-2 : goal.returns-then-shared-le1-2
 returns-then-shared-le1-2 c =
     let a = c.args in
     let w : Walk a.s a.row (c.start-at.result + 2 * c.component_of-component.result) 2 16 c.shift_of-shift.result c.full_code-full.result =
-      walk_pairs _ _ c.start-at.ensures.0 c.component_of-component.ensures.0 c.if-s-le8.false (rw (alone c.args.s.layout c.components_of-shared.ensures.0 c.if-shared-le1-2.true)) c.shift_of-shift.ensures.0 c.full_code-full.ensures
+    walk_pairs _ _ c.start-at.ensures.0 c.component_of-component.ensures.0 c.if-s-le8.false (rw (alone c.args.s.layout c.components_of-shared.ensures.0 c.if-shared-le1-2.true)) c.shift_of-shift.ensures.0 c.full_code-full.ensures
     in
     c.scan-then-shared-le1-2.ensures
     ∙ same_listed _ _ _
@@ -81,7 +73,7 @@ pub scan-requires-2 : goal.scan-requires-2
 scan-requires-2 c =
     let a = c.args in
     let w : Walk a.s a.row (c.start-at.result + 2 * c.component_of-component.result) 4 16 c.shift_of-shift.result c.full_code-full.result =
-      walk_pairs _ _ c.start-at.ensures.0 c.component_of-component.ensures.0 c.if-s-le8.false (rw (shared c.args.s.layout c.components_of-shared.ensures.0 c.components_of-shared.ensures.1 c.if-shared-le1-2.false)) c.shift_of-shift.ensures.0 c.full_code-full.ensures
+    walk_pairs _ _ c.start-at.ensures.0 c.component_of-component.ensures.0 c.if-s-le8.false (rw (shared c.args.s.layout c.components_of-shared.ensures.0 c.components_of-shared.ensures.1 c.if-shared-le1-2.false)) c.shift_of-shift.ensures.0 c.full_code-full.ensures
     in
     record {
       dst_bound = (omega (arith, c.requires.row_lt_height.1, c.requires.lent.width_most), lit< tt, c.shift_of-shift.ensures.1);
@@ -92,7 +84,7 @@ pub returns : goal.returns
 returns c =
     let a = c.args in
     let w : Walk a.s a.row (c.start-at.result + 2 * c.component_of-component.result) 4 16 c.shift_of-shift.result c.full_code-full.result =
-      walk_pairs _ _ c.start-at.ensures.0 c.component_of-component.ensures.0 c.if-s-le8.false (rw (shared c.args.s.layout c.components_of-shared.ensures.0 c.components_of-shared.ensures.1 c.if-shared-le1-2.false)) c.shift_of-shift.ensures.0 c.full_code-full.ensures
+    walk_pairs _ _ c.start-at.ensures.0 c.component_of-component.ensures.0 c.if-s-le8.false (rw (shared c.args.s.layout c.components_of-shared.ensures.0 c.components_of-shared.ensures.1 c.if-shared-le1-2.false)) c.shift_of-shift.ensures.0 c.full_code-full.ensures
     in
     c.scan-2.ensures
     ∙ same_listed _ _ _

@@ -1,11 +1,10 @@
-use Prim.Native.Nat.{◌+◌, ◌-◌, ◌*◌, ◌≤◌}
+use Prim.Native.Nat.{◌+◌, ◌*◌, ◌≤◌}
 use native.Mathlib.Nat.{lt_of_le_of_lt, mul-le-mul}
 use native.Mathlib.Omega.{arith}
 use lib.Dec.{lit<}
 use lib.ListN.{length}
-use Rattle.laws.proofs.Lists.{Filled, fill_starts, fills, fill_ends}
+use Rattle.laws.proofs.Lists.{fill_starts, fills, fill_ends}
 use Rattle.plane.specs.Plane.{sample_bytes}
-use Rattle.fill.specs.Lines.{stored_value}
 use Rattle.fill.proofs.scan.Goals as goal
 
 pub loop-x-init : goal.loop-x-init

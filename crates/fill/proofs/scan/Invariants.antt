@@ -1,10 +1,6 @@
-use Prim.Native.Nat.{◌+◌, ◌-◌, ◌*◌, ◌≤◌}
-use native.Mathlib.Nat.{lt_of_le_of_lt, mul-le-mul}
-use native.Mathlib.Omega.{arith}
-use lib.Dec.{lit<}
+use Prim.Native.Nat.{◌+◌, ◌-◌, ◌*◌}
 use lib.ListN.{length}
-use Rattle.laws.proofs.Lists.{Filled, fill_starts, fills, fill_ends}
-use Rattle.plane.specs.Plane.{sample_bytes}
+use Rattle.laws.proofs.Lists.{Filled}
 use Rattle.fill.specs.Lines.{stored_value}
 use Rattle.fill.proofs.scan.Given as goal
 

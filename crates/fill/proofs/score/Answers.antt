@@ -5,7 +5,6 @@ use Rattle.filter.specs.Filter.{one, score_of}
 use Rattle.filter.specs.Held.{step}
 use Rattle.fill.proofs.Columns.{slanting}
 use Rattle.fill.proofs.Slants.{gap_across}
-use borrow.Author.Rules.{rules}
 use Rattle.fill.proofs.score.Goals as goal
 
 pub returns : goal.returns

@@ -1,8 +1,6 @@
 use mathlib.Core.Path.{refl}
-use Prim.Native.Nat.{◌-◌}
 use native.Mathlib.Omega.{arith}
-use lib.ListN.{length}
-use Rattle.laws.proofs.Lists.{Filled, fill_starts, fills, fill_ends}
+use Rattle.laws.proofs.Lists.{fill_starts, fills, fill_ends}
 use Rattle.fill.proofs.spread.Goals as goal
 
 pub loop-x-init : goal.loop-x-init

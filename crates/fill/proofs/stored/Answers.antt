@@ -1,6 +1,5 @@
 use native.Mathlib.Omega.{arith}
 use borrow.Author.Tests.{le-leb, lt-leb}
-use borrow.Author.Rules.{rules}
 use Rattle.plane.proofs.Places.{width_short, width_long}
 use Rattle.fill.proofs.stored.Goals as goal
 

@@ -1,14 +1,8 @@
-use mathlib.Core.Path.{◌≡◌, sym, ◌∙◌}
-use mathlib.Core.List.{List}
-use borrow.Author.Rules.{rules}
+use mathlib.Core.Path.{sym, ◌∙◌}
 use lib.ListN.{length}
-use lib.Ieee.{Float}
 use Rattle.plane.specs.Plane.{value_of}
-use Rattle.filter.specs.declared.Quality.{Quality}
 use Rattle.filter.specs.declared.Quality.TheVariants.{Weave, Bob, Yadif, Bwdif}
-use Rattle.filter.specs.Filter.{Sampler}
-use Rattle.fill.specs.Lines.{tile_of, sample_tile}
-use Rattle.fill.proofs.Chosen.{missing_of, tile_kept, tile_missing}
+use Rattle.fill.proofs.Chosen.{tile_kept, tile_missing}
 use Rattle.fill.proofs.tile.Goals as goal
 
 pub returns-then-kept : goal.returns-then-kept
@@ -16,7 +10,7 @@ returns-then-kept c =
     let a = c.args in
     record {
       out_after = tile_kept a.making.rows (value_of a.before.now a.making.before) (value_of a.cur.now a.making.cur) (value_of a.after.now a.making.after)
-        a.making.quality a.from (length a.out.now) a.y (sym c.kept.ensures ∙ c.if-kept.true) c.samples.ensures;
+          a.making.quality a.from (length a.out.now) a.y (sym c.kept.ensures ∙ c.if-kept.true) c.samples.ensures;
       rows_len = c.requires.tiled.1;
     }
 
@@ -25,7 +19,7 @@ returns-in-Weave c =
     let a = c.args in
     record {
       out_after = tile_missing a.making.rows (value_of a.before.now a.making.before) (value_of a.cur.now a.making.cur) (value_of a.after.now a.making.after)
-        a.making.quality a.from (length a.out.now) a.y Weave c.in-Weave.is (sym c.kept.ensures ∙ c.if-kept.false) c.samples-in-Weave.ensures;
+          a.making.quality a.from (length a.out.now) a.y Weave c.in-Weave.is (sym c.kept.ensures ∙ c.if-kept.false) c.samples-in-Weave.ensures;
       rows_len = c.requires.tiled.1;
     }
 
@@ -34,7 +28,7 @@ returns-in-Bob c =
     let a = c.args in
     record {
       out_after = tile_missing a.making.rows (value_of a.before.now a.making.before) (value_of a.cur.now a.making.cur) (value_of a.after.now a.making.after)
-        a.making.quality a.from (length a.out.now) a.y Bob c.in-Bob.is (sym c.kept.ensures ∙ c.if-kept.false) c.bob.ensures.out_after;
+          a.making.quality a.from (length a.out.now) a.y Bob c.in-Bob.is (sym c.kept.ensures ∙ c.if-kept.false) c.bob.ensures.out_after;
       rows_len = c.bob.ensures.rows_len;
     }
 
@@ -43,7 +37,7 @@ returns-in-Yadif c =
     let a = c.args in
     record {
       out_after = tile_missing a.making.rows (value_of a.before.now a.making.before) (value_of a.cur.now a.making.cur) (value_of a.after.now a.making.after)
-        a.making.quality a.from (length a.out.now) a.y Yadif c.in-Yadif.is (sym c.kept.ensures ∙ c.if-kept.false) c.yadif.ensures.out_after;
+          a.making.quality a.from (length a.out.now) a.y Yadif c.in-Yadif.is (sym c.kept.ensures ∙ c.if-kept.false) c.yadif.ensures.out_after;
       rows_len = c.yadif.ensures.rows_len;
     }
 
@@ -52,6 +46,6 @@ returns-in-Bwdif c =
     let a = c.args in
     record {
       out_after = tile_missing a.making.rows (value_of a.before.now a.making.before) (value_of a.cur.now a.making.cur) (value_of a.after.now a.making.after)
-        a.making.quality a.from (length a.out.now) a.y Bwdif c.in-Bwdif.is (sym c.kept.ensures ∙ c.if-kept.false) c.bwdif.ensures.out_after;
+          a.making.quality a.from (length a.out.now) a.y Bwdif c.in-Bwdif.is (sym c.kept.ensures ∙ c.if-kept.false) c.bwdif.ensures.out_after;
       rows_len = c.bwdif.ensures.rows_len;
     }

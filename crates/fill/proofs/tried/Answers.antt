@@ -6,7 +6,6 @@ use Rattle.filter.specs.Filter.{slant_bias, slanted_of}
 use Rattle.filter.specs.Held.{step}
 use Rattle.fill.specs.Lines.{better_in}
 use Rattle.fill.proofs.Slants.{better_picked}
-use borrow.Author.Rules.{rules}
 use Rattle.fill.proofs.tried.Goals as goal
 
 pub returns : goal.returns

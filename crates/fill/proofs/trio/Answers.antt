@@ -1,7 +1,6 @@
 use native.Mathlib.Omega.{arith}
 use lib.IntN.{pos}
 use Rattle.fill.proofs.Expanded.{under_more, around_stays, held_here}
-use borrow.Author.Rules.{rules}
 use Rattle.fill.proofs.trio.Goals as goal
 
 pub returns : goal.returns

@@ -1,4 +1,3 @@
-use borrow.Author.Rules.{rules}
 use Rattle.fill.proofs.value.Goals as goal
 
 pub returns : goal.returns

@@ -1,13 +1,11 @@
-use mathlib.Core.Path.{◌≡◌, refl, ◌∙◌, ap}
-use Prim.Native.Nat.{◌+◌, ◌-◌, ◌≤◌, zero-le}
+use mathlib.Core.Path.{refl, ◌∙◌, ap}
+use Prim.Native.Nat.{◌+◌, zero-le}
 use native.Mathlib.Omega.{arith}
-use borrow.Author.Rules.{rules}
 use lib.IntN.{pos}
 use lib.ListN.{length, length-set}
-use Rattle.laws.proofs.Lists.{Filled, fill_starts, fills, fill_ends}
+use Rattle.laws.proofs.Lists.{fill_starts, fills, fill_ends}
 use Rattle.plane.specs.Plane.{value_of}
-use Rattle.filter.specs.Filter.{Sampler, one, half_f, edge_of, in_motion_of, yadif_of}
-use Rattle.fill.specs.Rows.{Motion}
+use Rattle.filter.specs.Filter.{one, half_f, edge_of, in_motion_of, yadif_of}
 use lib.Ieee.{binary32, mul}
 use Rattle.fill.specs.declared.Pick.{Pick}
 use Rattle.fill.proofs.yadif.Goals as goal

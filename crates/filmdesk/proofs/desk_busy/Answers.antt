@@ -1,7 +1,8 @@
 use mathlib.Core.Path.{◌≡◌, refl, ap, ◌∙◌}
 use lib.ListN.{length}
-use borrow.Author.Tests.{le-leb, lt-leb}
-use Rattle.laws.specs.Refusal.{lowest, when_done}
+use native.Mathlib.Omega.{arith}
+use borrow.Author.Tests.{le-leb}
+use Rattle.laws.specs.Refusal.{when_done}
 use Rattle.laws.proofs.Refusal.{Tells, told_number, told_value, told_nothing, number_behind}
 use Rattle.field.specs.Field.{first_row_of, parity_named}
 use Rattle.plane.specs.Plane.{grid_shape}
@@ -13,12 +14,6 @@ use Rattle.filmdesk.specs.Film.{picture_named, busy_no}
 use Rattle.filmdesk.proofs.Calls.{same_number, same_values}
 use Rattle.filmdesk.proofs.desk_busy.Goals as goal
 
-pub returns-then-parity-gt1 : goal.returns-then-parity-gt1
-unfolding lowest
-returns-then-parity-gt1 c =
-    let a = c.args in
-    simp (lt-leb a.parity 1 c.if-parity-gt1.true) (record { value = refl; busy_after = refl; total_after = refl })
-
 pub returns-in-Value : goal.returns-in-Value
 returns-in-Value c =
     let answered : (let a = c.args in Tells counted_no counted_values c.count.result (busy_no a.grid (length a.plane.now) (length a.store.now) a.parity) (counts_of a.plane.now (picture_named a.grid) a.store.now (first_row_of (parity_named a.parity)))) = let a = c.args in
@@ -27,7 +22,7 @@ returns-in-Value c =
     let row = first_row_of (parity_named a.parity) in
     let s = picture_named a.grid in
     let grid = c.grid_named.ensures in
-    let named = le-leb a.parity 1 c.if-parity-gt1.false in
+    let named = le-leb a.parity 1 (omega arith) in
     let behind : count_no s (length plane) (length store) ≡ busy_no a.grid (length plane) (length store) a.parity = number_behind 3 named refl in
     record {
       number_is =
@@ -53,7 +48,7 @@ returns-in-Refused c =
     let row = first_row_of (parity_named a.parity) in
     let s = picture_named a.grid in
     let grid = c.grid_named.ensures in
-    let named = le-leb a.parity 1 c.if-parity-gt1.false in
+    let named = le-leb a.parity 1 (omega arith) in
     let behind : count_no s (length plane) (length store) ≡ busy_no a.grid (length plane) (length store) a.parity = number_behind 3 named refl in
     record {
       number_is =

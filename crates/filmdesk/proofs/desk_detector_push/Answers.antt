@@ -4,6 +4,7 @@ use mathlib.Core.Bool.{◌&&◌}
 use mathlib.Core.List.{[], ◌∷◌}
 use lib.Dec.{leb}
 use lib.ListN.{length}
+use native.Mathlib.Omega.{arith}
 use borrow.Author.Tests.{leb-true}
 use Rattle.laws.specs.Refusal.{lowest, when_done, written}
 use Rattle.laws.specs.Rows.{over}
@@ -45,13 +46,13 @@ returns-then-refused-ne0 c =
 pub detector_in-detector-requires : goal.detector_in-detector-requires
 detector_in-detector-requires c =
     let first-passed : (let a = c.args in AllPass (first_tests a.parity (grid_shape c.grid_named-picture.result) (length a.state.now))) = let a = c.args in
-    first_passes a.parity (grid_shape c.grid_named-picture.result) (length a.state.now) c.first_no-refused.ensures c.if-refused-ne0.false in
+    first_passes a.parity (grid_shape c.grid_named-picture.result) (length a.state.now) c.first_no-refused.ensures (omega arith) in
     leb-true _ _ (first-passed).1.1.0
 
 pub keep-requires : goal.keep-requires
 keep-requires c =
     let first-passed : (let a = c.args in AllPass (first_tests a.parity (grid_shape c.grid_named-picture.result) (length a.state.now))) = let a = c.args in
-    first_passes a.parity (grid_shape c.grid_named-picture.result) (length a.state.now) c.first_no-refused.ensures c.if-refused-ne0.false in
+    first_passes a.parity (grid_shape c.grid_named-picture.result) (length a.state.now) c.first_no-refused.ensures (omega arith) in
     let verdict : good_shape (grid_shape c.grid_named-picture.result) ≡ good_shape (picture_named c.args.grid) = ap (λ (g : Grid). good_shape (grid_shape g)) c.grid_named-picture.ensures ∙ cut_good (picture_named c.args.grid) in
     let picture-is : grid_shape c.grid_named-picture.result ≡ picture_named c.args.grid = ap grid_shape c.grid_named-picture.ensures
     ∙ cut_same (picture_named c.args.grid) (sym (verdict) ∙ (first-passed).1.0) in
@@ -68,7 +69,7 @@ pub returns-in-Gave : goal.returns-in-Gave
 returns-in-Gave c =
     let verdict : good_shape (grid_shape c.grid_named-picture.result) ≡ good_shape (picture_named c.args.grid) = ap (λ (g : Grid). good_shape (grid_shape g)) c.grid_named-picture.ensures ∙ cut_good (picture_named c.args.grid) in
     let first-passed : (let a = c.args in AllPass (first_tests a.parity (grid_shape c.grid_named-picture.result) (length a.state.now))) = let a = c.args in
-    first_passes a.parity (grid_shape c.grid_named-picture.result) (length a.state.now) c.first_no-refused.ensures c.if-refused-ne0.false in
+    first_passes a.parity (grid_shape c.grid_named-picture.result) (length a.state.now) c.first_no-refused.ensures (omega arith) in
     let picture-is : grid_shape c.grid_named-picture.result ≡ picture_named c.args.grid = ap grid_shape c.grid_named-picture.ensures
     ∙ cut_same (picture_named c.args.grid) (sym (verdict) ∙ (first-passed).1.0) in
     let answered : (let a = c.args in Tells answer_no answer_values c.push-pushed.result.answer (push_state_no a.grid a.parity (length a.plane.now) (length a.store.now) (length a.state.now) (detector_in a.state.now)) (push_cadence (detector_in a.state.now) a.store.now a.plane.now (picture_named a.grid) (parity_named a.parity))) = let a = c.args in
@@ -108,7 +109,7 @@ returns-in-Gave c =
 pub returns-in-Refused : goal.returns-in-Refused
 returns-in-Refused c =
     let first-passed : (let a = c.args in AllPass (first_tests a.parity (grid_shape c.grid_named-picture.result) (length a.state.now))) = let a = c.args in
-    first_passes a.parity (grid_shape c.grid_named-picture.result) (length a.state.now) c.first_no-refused.ensures c.if-refused-ne0.false in
+    first_passes a.parity (grid_shape c.grid_named-picture.result) (length a.state.now) c.first_no-refused.ensures (omega arith) in
     let verdict : good_shape (grid_shape c.grid_named-picture.result) ≡ good_shape (picture_named c.args.grid) = ap (λ (g : Grid). good_shape (grid_shape g)) c.grid_named-picture.ensures ∙ cut_good (picture_named c.args.grid) in
     let picture-is : grid_shape c.grid_named-picture.result ≡ picture_named c.args.grid = ap grid_shape c.grid_named-picture.ensures
     ∙ cut_same (picture_named c.args.grid) (sym (verdict) ∙ (first-passed).1.0) in

@@ -2,7 +2,6 @@
 use native.Mathlib.Omega.{arith}
 use Rattle.filter.specs.Filter.{across_of}
 use Rattle.filter.proofs.Offsets.{unbiased_more, unbiased_less, across_above, across_below}
-use borrow.Author.Rules.{rules}
 use Rattle.filter.proofs.across.Goals as goal
 
 pub returns : goal.returns

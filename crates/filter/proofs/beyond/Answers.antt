@@ -1,5 +1,4 @@
 use Rattle.filter.specs.Filter.{beyond_of}
-use borrow.Author.Rules.{rules}
 use Rattle.filter.proofs.beyond.Goals as goal
 
 pub returns : goal.returns

@@ -2,7 +2,6 @@ use mathlib.Core.Path.{◌≡◌}
 use lib.IntN.{ℤ}
 use lib.Ieee.{Float}
 use Rattle.filter.specs.Filter.{Sampler, in_motion_of, edge_of, near_of, far_of, cubic_of, bwdif_of}
-use borrow.Author.Rules.{rules}
 use Rattle.filter.proofs.bwdif.Goals as goal
 
 joined :

@@ -14,7 +14,6 @@ use mir.Syntax.{w32}
 use Rattle.filter.specs.Filter.{edge_of}
 use Rattle.filter.specs.Answer.{edge_no}
 use Rattle.filter.proofs.Places.{Placed, placed}
-use borrow.Author.Rules.{rules}
 use Rattle.filter.proofs.edge.Goals as goal
 
 pub edge_at-requires : goal.edge_at-requires

@@ -7,7 +7,6 @@ use Rattle.filter.specs.Held.{step}
 use Rattle.filter.specs.Filter.{edge_of}
 use Rattle.filter.proofs.Offsets.{step_within}
 use Rattle.filter.proofs.Slants.{edge_found, edge_within}
-use borrow.Author.Rules.{rules}
 use Rattle.filter.proofs.edge_at.Goals as goal
 
 pub returns : goal.returns

@@ -2,7 +2,6 @@
 use native.Mathlib.Omega.{arith}
 use Rattle.filter.specs.Filter.{far_of}
 use Rattle.filter.proofs.Offsets.{unbiased_more, unbiased_less, far_above, far_below}
-use borrow.Author.Rules.{rules}
 use Rattle.filter.proofs.far.Goals as goal
 
 pub returns : goal.returns

@@ -1,5 +1,4 @@
 use Rattle.filter.specs.Filter.{held_of}
-use borrow.Author.Rules.{rules}
 use Rattle.filter.proofs.hold.Goals as goal
 
 pub returns : goal.returns

@@ -1,7 +1,6 @@
 use native.Mathlib.Omega.{arith}
 use Rattle.filter.proofs.Motion.{joined}
 use Rattle.filter.proofs.Offsets.{unbiased_more, unbiased_less}
-use borrow.Author.Rules.{rules}
 use Rattle.filter.proofs.in_motion.Goals as goal
 
 pub returns : goal.returns

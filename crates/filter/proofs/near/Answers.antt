@@ -2,7 +2,6 @@
 use native.Mathlib.Omega.{arith}
 use Rattle.filter.specs.Filter.{near_of}
 use Rattle.filter.proofs.Offsets.{unbiased_more, unbiased_less, near_above, near_below}
-use borrow.Author.Rules.{rules}
 use Rattle.filter.proofs.near.Goals as goal
 
 pub returns : goal.returns

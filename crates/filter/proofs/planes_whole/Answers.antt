@@ -1,4 +1,3 @@
-use borrow.Author.Rules.{rules}
 use Rattle.filter.proofs.planes_whole.Goals as goal
 
 pub returns : goal.returns

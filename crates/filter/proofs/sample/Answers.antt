@@ -12,7 +12,6 @@ use Rattle.filter.specs.Rows.{good_rows}
 use Rattle.filter.specs.Making.{sample_in}
 use Rattle.filter.specs.Answer.{sample_no}
 use Rattle.filter.proofs.Places.{Placed, placed}
-use borrow.Author.Rules.{rules}
 use Rattle.filter.proofs.sample.Goals as goal
 
 pub sample_at-requires : goal.sample_at-requires
@@ -50,7 +49,7 @@ returns-then-no-eq0 c =
       result_value_2 = ap (λ (v : Float). v ∷ [])
           (c.sample_at.ensures
           ∙ (λ i.
-          sample_in a.making a.before.now a.cur.now a.after.now ((x-placed).is i) ((y-placed).is i)))
+          sample_in a.making a.before.now a.cur.now a.after.now ((x-placed).is i) ((y-placed).is i)));
     }
 
 pub returns-else-no-eq0 : goal.returns-else-no-eq0

@@ -2,7 +2,6 @@ use mathlib.Core.Path.{◌≡◌, sym, ◌∙◌}
 use mathlib.Core.Bool.{true, false}
 use Rattle.filter.specs.Rows.{weaves}
 use Rattle.filter.proofs.Samples.{woven_mate, woven_own, shown_own, missing_made}
-use borrow.Author.Rules.{rules}
 use Rattle.filter.proofs.sample_at.Goals as goal
 
 pub returns-then-parity-rows : goal.returns-then-parity-rows

@@ -2,7 +2,6 @@ use mathlib.Core.Path.{ap}
 use mir.Facts.{to_z-of_z}
 use Rattle.laws.specs.Refusal.{lowest}
 use Rattle.plane.specs.Coordinates.{in_reach}
-use borrow.Author.Rules.{rules}
 use Rattle.filter.proofs.sample_no.Goals as goal
 
 pub returns : goal.returns

@@ -1,5 +1,4 @@
 use Rattle.filter.specs.Filter.{score_of}
-use borrow.Author.Rules.{rules}
 use Rattle.filter.proofs.score.Goals as goal
 
 pub returns : goal.returns

@@ -3,7 +3,6 @@ use Prim.Native.Nat.{◌^◌}
 use lib.Dec.{le→leb}
 use lib.Ieee.{in_float}
 use Rattle.filter.specs.Filter.{slanted_of}
-use borrow.Author.Rules.{rules}
 use Rattle.filter.proofs.slanted.Goals as goal
 
 pub int_to_float-result : goal.int_to_float-result

@@ -1,7 +1,6 @@
 use mathlib.Core.Path.{sym}
 use native.Mathlib.Omega.{arith}
 use Rattle.filter.proofs.Offsets.{step_below, step_from}
-use borrow.Author.Rules.{rules}
 use Rattle.filter.proofs.steepness.Goals as goal
 
 pub returns-then-j-lt2 : goal.returns-then-j-lt2

@@ -1,4 +1,3 @@
-use borrow.Author.Rules.{rules}
 use Rattle.filter.proofs.tried.Goals as goal
 
 pub returns : goal.returns

@@ -1,5 +1,4 @@
 use Rattle.filter.specs.Filter.{wider_of}
-use borrow.Author.Rules.{rules}
 use Rattle.filter.proofs.wider.Goals as goal
 
 pub returns : goal.returns

@@ -1,5 +1,4 @@
 use Rattle.filter.specs.Filter.{yadif_of}
-use borrow.Author.Rules.{rules}
 use Rattle.filter.proofs.yadif.Goals as goal
 
 pub returns : goal.returns

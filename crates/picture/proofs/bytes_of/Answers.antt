@@ -1,0 +1,11 @@
+use Prim.Native.Nat.{◌*◌, ◌≤◌}
+use native.Mathlib.Nat.{lt_of_le_of_lt, mul-le-mul}
+use native.Mathlib.Omega.{arith}
+use lib.Dec.{lit<}
+use Rattle.picture.proofs.bytes_of.Goals as goal
+
+pub overflow_mul-result-2 : goal.overflow_mul-result-2
+overflow_mul-result-2 c =
+    let h : c.args.height ≤ 65535 = omega arith in
+    let w : c.args.width * 4 ≤ 262140 = omega arith in
+    record { fits = lt_of_le_of_lt (mul-le-mul h w) (lit< tt) }
