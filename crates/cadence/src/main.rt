@@ -12,6 +12,7 @@ ghost use Rattle.cadence.specs.Turns.{done_with, Answers};
 
 use listing::Lister;
 use pages::Ask;
+use std::io::Read;
 
 // What is left after what a step asked for was done, and whether to go on.
 #[derive(Clone, Copy)]
@@ -27,19 +28,21 @@ fn tell(text: &[u8]) {
 
 // Reads into the buffer from a place on, and answers how many bytes came, no more than there was room for; what
 // stands before stays. A read that fails is told, and counts as the end of the input.
-fn read(buffer: &mut [u8], from: usize) -> usize
+fn read(rt: &HostRuntime, buffer: &mut [u8], from: usize) -> usize
     ensures upper_bound { result ≤ length buffer.old - from }
     ensures buffer_unchanged { take (min from (length buffer.old)) buffer.new ≡ take (min from (length buffer.old)) buffer.old }
 {
     let start = pages::least(from, buffer.len());
     let part = &mut buffer[start..];
-    let got = libc::read(0, part);
-    if got < 0 {
-        tell(
-            b"cadence: standard input cannot be read; expected a reel file; what came before is listed\n",
-        );
+    match rt.stdin().read(part) {
+        Ok(n) => n,
+        Err(_) => {
+            tell(
+                b"cadence: standard input cannot be read; expected a reel file; what came before is listed\n",
+            );
+            0
+        }
     }
-    io::count(got, part)
 }
 
 // The part of a page that is used: its first n bytes.
@@ -115,13 +118,13 @@ fn done(lister: Lister, on: bool) -> Turn
 }
 
 // Does what a step asks for. After a write that failed nothing more is done.
-fn answered(after: Lister, ask: Ask, buffer: &mut [u8], page: &[u8]) -> Turn
+fn answered(rt: &HostRuntime, after: Lister, ask: Ask, buffer: &mut [u8], page: &[u8]) -> Turn
     ensures { Answers ask after (length buffer.old) result }
 {
     match ask {
         Ask::Unit => done(after, true),
         Ask::Read(from) => {
-            let n = read(buffer, from);
+            let n = read(rt, buffer, from);
             let came = after.came(buffer, n);
             done(came, true)
         }
@@ -131,7 +134,7 @@ fn answered(after: Lister, ask: Ask, buffer: &mut [u8], page: &[u8]) -> Turn
 }
 
 // A file takes few steps for each of its bytes, so that none lasts as long as is counted down here.
-fn run() {
+fn run(rt: &HostRuntime) {
     let mut buffer = [0u8; 65536];
     let mut page = [0u8; 65536];
     let mut store = [0u8; 16384];
@@ -141,7 +144,7 @@ fn run() {
         let step = lister.step(&mut buffer, &mut store, &mut page);
         let after = step.lister;
         let ask = step.ask;
-        let next = answered(after, ask, &mut buffer, &page);
+        let next = answered(rt, after, ask, &mut buffer, &page);
         if !next.on {
             return;
         }
@@ -150,6 +153,6 @@ fn run() {
     }
 }
 
-fn main() {
-    run();
+fn main(rt: HostRuntime) {
+    run(&rt);
 }
