@@ -148,6 +148,7 @@ fn write_cadences(out: &mut [u8], entries: &[u8], n: usize)
 
 // The cadence of each entry, from a fresh detector: 0 None, 1 Whole, 2 Drop, 3 Spanning. Numbers 3, 6,
 // 7 and 9.
+#[tactic(auto, using(laws::proofs::Refusal::written_done, laws::proofs::Refusal::stays, crate::proofs::Judged::passed))]
 pub fn cadences(out: &mut [u8], entries: &[u8]) -> u8
     ensures value { result ≡ cadences_no entries.now (length out.old) }
     ensures out_after { out.new ≡ written result (over (cadences_of entries.now) out.old) out.old }

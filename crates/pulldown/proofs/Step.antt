@@ -2,18 +2,24 @@
 -- the window may lock one.
 use Prim.Native.Nat.{ℕ, ◌+◌, ◌%◌, min, ◌<◌, ◌≤◌}
 use native.Mathlib.Omega.{arith}
-use mathlib.Core.Path.{◌≡◌, refl}
+use mathlib.Core.Path.{◌≡◌, refl, ap}
 use mathlib.Core.Bool.{Bool, true, false, cond}
-use mathlib.Core.List.{List}
+use mathlib.Core.List.{List, []}
 use lib.Dec.{ltb}
 use lib.ListN.{set}
 use Rattle.pulldown.specs.declared.Symbol.{Symbol}
 use Rattle.pulldown.specs.declared.Course.{Course}
+use Rattle.pulldown.specs.declared.Lock.{Lock}
 use Rattle.pulldown.specs.Symbols.{symbol_number}
 use Rattle.pulldown.specs.Runs.{frame_of, contradicts}
-use Rattle.pulldown.specs.Lock.{window, locked_by, phase_after, stills_after, with_symbol, lock_with}
+use Rattle.pulldown.specs.Lock.{window, locked_by, phase_after, stills_after, with_symbol, without_symbol, lock_with}
 use Rattle.pulldown.specs.Inner.{with_phase, phase_in}
 use Rattle.pulldown.proofs.Few.{few_locked}
+
+-- the end of a run, by the place that it leaves
+pub ended : (r c : Course) → ((ring : List ℕ) → lock_with ring r ≡ without_symbol (lock_with ring c))
+    → (r.next ≡ c.next) × (r ≡ (without_symbol (lock_with [] c)).course)
+ended r c e = let same : r ≡ (without_symbol (lock_with [] c)).course = ap (λ (l : Lock). l.course) (e []) in (ap (λ (x : Course). x.next) same, same)
 
 module _ (ring : List ℕ) (c : Course) (s : Symbol) (within : c.next < 15) where
   abbrev stills : ℕ

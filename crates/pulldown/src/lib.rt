@@ -148,6 +148,7 @@ fn one_more(n: usize, most: usize) -> usize
 
 // The symbol of a frame by its busy blocks: those of the leading field, that field's total, and those of
 // the trailing one.
+#[tactic(auto, unfolding(crate::specs::Symbols::symbol_of))]
 pub fn classify_counts(first: u64, blocks: u64, second: u64) -> Symbol
     ensures { result ≡ symbol_of first blocks second }
 {
@@ -266,6 +267,7 @@ fn candidate(ring: &[u8; 15], place: usize, n: u64, held: usize) -> u8
 
 // A phase is locked only at the head of the pattern, so that the first frame that is shown needs no
 // field of the frame before it.
+#[tactic(auto, unfolding(crate::specs::Lock::locked_by))]
 fn locked_by(ring: &[u8; 15], place: usize, n: u64, held: usize) -> u8
     requires { (place < 15) × (held ≤ 15) }
     ensures { result ≡ locked_by (window ring.now place n held) n }
@@ -464,6 +466,7 @@ fn take_seen(ring: &mut [u8; 15], course: Course, seen: Seen) -> Course
 
 // Takes a frame, the ring in place: every push of a lock is this step. A refusal changes nothing. The
 // cadence is that of the phase which the frame leaves.
+#[tactic(auto, unfolding(laws::specs::Refusal::lowest))]
 pub fn push_apart(ring: &mut [u8; 15], course: Course, seen: Seen) -> Stepped
     ensures course_after { lock_with ring.new result.course ≡ push_lock (lock_with ring.old course) seen }
     ensures answer_value { answer_no result.answer ≡ push_no (lock_with ring.old course) }
@@ -532,6 +535,7 @@ impl Lock {
     }
 
     // The cadence of the frame that comes after `ahead` others, as far as the lock tells it.
+    #[tactic(auto, unfolding(laws::specs::Refusal::lowest))]
     pub fn predict(self, ahead: u64) -> Answer
         ensures { (answer_no result ≡ predict_no ahead) × (answer_values result ≡ when_done (predict_no ahead) (predict_cadence self ahead)) }
     {
@@ -558,6 +562,7 @@ pub fn seen_code(seen: Seen) -> u8
 
 // The step of `push_apart`, of a code and without its tests. It does what `take_symbol` does and does not
 // call it, since a function with a second caller would not be compiled into the loop of `cadences_of`.
+#[tactic(auto, using(crate::proofs::Step::ended), unfolding(crate::specs::Lock::advance_of))]
 fn take_code(ring: &mut [u8; 15], course: Course, code: u8) -> Course
     requires { (course.next < 15) × (course.taken < 4000000000) }
     ensures { (lock_with ring.new result ≡ advance_of (lock_with ring.old course) (seen_by code)) × (result.next < 15) }

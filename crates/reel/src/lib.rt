@@ -282,6 +282,7 @@ impl Reel {
         }
     }
 
+    #[tactic(auto, unfolding(crate::specs::Machine::shape_count_of, laws::specs::Refusal::lowest))]
     fn shape_count(self, unit: &[u8]) -> Next
         ensures { result ≡ shape_count_of self unit.now }
     {
@@ -334,6 +335,7 @@ impl Reel {
     }
 
     // The first of n entries. Counts leave the store alone, and what it holds does not matter.
+    #[tactic(auto, using(crate::proofs::Pushes::entry_leads), unfolding(crate::specs::Machine::entry_unit_of, laws::specs::Refusal::lowest))]
     fn entry_unit(self, n: u16, unit: &[u8]) -> Next
         requires { 0 < n }
         ensures { result ≡ entry_unit_of self n [] unit.now }
@@ -381,6 +383,7 @@ impl Reel {
         self.pushed(Stage::Pictures(n - 1), pushed)
     }
 
+    #[tactic(auto, unfolding(crate::specs::Machine::end_of))]
     fn end(self, unit: &[u8]) -> Next
         ensures { result ≡ end_of self unit.now }
     {

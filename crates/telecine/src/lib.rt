@@ -169,6 +169,7 @@ fn picture_no(detector: Detector, grid: Grid, bytes: usize, room: usize) -> u8
 
 // Takes a frame of either kind, by what was seen of it: every push of a detector is this step. The ring is
 // changed in place. A refusal changes nothing.
+#[tactic(auto, unfolding(laws::specs::Refusal::lowest))]
 pub fn step(ring: &mut [u8; 15], course: Course, last: Chosen, first: Parity, seen: Seen) -> Stepped
     ensures course_after { lock_with ring.new result.course ≡ push_lock (lock_with ring.old course) seen }
     ensures last_value { result.last ≡ last_after (lock_with ring.old course) last first }
@@ -278,6 +279,7 @@ impl Detector {
     // Takes a picture: compares it with the frame that the store keeps, and then keeps it there. Codes are
     // not shifted, and one above 2^depth - 1 counts as that: a biplanar luma deeper than 8 bits goes through
     // readback first.
+    #[tactic(auto, using(crate::proofs::Calls::picture_refused))]
     pub fn push(self, plane: &[u8], grid: Grid, first: Parity, store: &mut [u8]) -> Pushed
         ensures detector_value { result.detector ≡ push_detector self store.old plane.now (grid_shape grid) first }
         ensures answer_value { answer_no result.answer ≡ push_no self (grid_shape grid) (length plane.now) (length store.old) }
