@@ -2,7 +2,7 @@
 // standard input to standard output. A step of `listing` says what to do, and here it is done: a part of
 // the buffer is read into, or a part of the page written. What the pages then are is the claim
 // `ListsEveryInput` of `listing`. What goes wrong is told on standard error: an input that cannot be read,
-// an output that cannot be written, which ends the program, and why a file is refused. A program of Rattle
+// an output that cannot be written, which ends the program, and why a file is refused. The program
 // sets no exit status, so that ./run goes by what was told.
 #![tactic(auto)]
 
