@@ -1,8 +1,7 @@
 // Copyright 2026 Till0196
 // SPDX-License-Identifier: Apache-2.0
-// Carried over from core/src/output/video/field.rs, and changed: `Option<Parity>` is the enum `Chosen`,
-// `first_field` takes the two values that it read from `About`, and the schedule from a cadence to
-// outputs stays behind.
+// Carried over from core/src/output/video/field.rs, and changed: `first_field` takes the two values that it
+// read from `About`, and the schedule from a cadence to outputs stays behind.
 //
 // Which field of a frame is which, and the words for what is shown of a frame.
 #![tactic(auto)]
@@ -11,10 +10,10 @@ ghost use Rattle.std.specs.Prelude.{◌≡◌};
 ghost use Rattle.field.specs.Field.{first_row_of, other_of, parity_named, cadence_number, first_field_of};
 
 // The two fields of a frame. The top one has the even rows, the bottom one the odd.
-#[derive(Clone, Copy)]
+#[derive(Clone, Copy, Debug, PartialEq, Eq)]
 pub enum Parity {
-    Top,
-    Bottom,
+    Top = 0,
+    Bottom = 1,
 }
 
 impl Parity {
@@ -22,10 +21,7 @@ impl Parity {
     pub fn first_row(self) -> u32
         ensures { result ≡ first_row_of self }
     {
-        match self {
-            Parity::Top => 0,
-            Parity::Bottom => 1,
-        }
+        self as u32
     }
 
     pub fn other(self) -> Parity
@@ -51,7 +47,7 @@ impl Parity {
 }
 
 // Which of the three frames at hand a field is taken from.
-#[derive(Clone, Copy)]
+#[derive(Clone, Copy, Debug, PartialEq, Eq)]
 pub enum Source {
     Previous,
     Current,
@@ -59,44 +55,32 @@ pub enum Source {
 }
 
 // What the detector finds of a frame. No flag of the stream says it.
-#[derive(Clone, Copy)]
+// Its number is the one by which the desk gets it.
+#[derive(Clone, Copy, Debug, PartialEq, Eq)]
 pub enum Cadence {
-    None,
+    None = 0,
     // Both fields show one film picture: weave them.
-    Whole,
-    // The first field and the previous frame's second show one film picture.
-    Spanning,
+    Whole = 1,
     // The frame has no film picture of its own.
-    Drop,
+    Drop = 2,
+    // The first field and the previous frame's second show one film picture.
+    Spanning = 3,
 }
 
 impl Cadence {
-    // The number by which the desk gets it.
     pub fn number(self) -> u8
         ensures { result ≡ cadence_number self }
     {
-        match self {
-            Cadence::None => 0,
-            Cadence::Whole => 1,
-            Cadence::Spanning => 3,
-            Cadence::Drop => 2,
-        }
+        self as u8
     }
 }
 
-// One of the two fields, or neither: `Option<Parity>` of the original.
-#[derive(Clone, Copy)]
-pub enum Chosen {
-    Field(Parity),
-    Neither,
-}
-
-#[derive(Clone, Copy)]
+#[derive(Clone, Copy, Debug, PartialEq, Eq)]
 pub struct Output {
-    // The field that is shown; neither where the frame is shown whole.
-    pub field: Chosen,
+    // The field that is shown; none where the frame is shown whole.
+    pub field: Option<Parity>,
     // The field whose rows come from the frame `before` when film is put together again.
-    pub weave: Chosen,
+    pub weave: Option<Parity>,
     pub before: Source,
     pub after: Source,
     // Shown at `at` parts of the frame's time, which has `of` parts.
@@ -107,7 +91,7 @@ pub struct Output {
 }
 
 // How a picture was coded: both fields together, or one alone.
-#[derive(Clone, Copy)]
+#[derive(Clone, Copy, Debug, PartialEq, Eq)]
 pub enum Structure {
     Frame,
     Top,
@@ -120,13 +104,8 @@ pub fn first_field(structure: Structure, top_field_first: bool) -> Parity
     ensures { result ≡ first_field_of structure top_field_first }
 {
     match structure {
-        Structure::Frame => {
-            if top_field_first {
-                Parity::Top
-            } else {
-                Parity::Bottom
-            }
-        }
+        Structure::Frame if top_field_first => Parity::Top,
+        Structure::Frame => Parity::Bottom,
         Structure::Top => Parity::Top,
         Structure::Bottom => Parity::Bottom,
     }

@@ -4,13 +4,11 @@ use Rattle.laws.specs.Refusal.{Says}
 use Rattle.float.specs.Float.{one_f}
 use Rattle.float.specs.Bounds.{Unit}
 use Rattle.plane.specs.declared.Shape.{Shape}
-use Rattle.plane.specs.declared.Sampled.{Sampled}
-use Rattle.plane.specs.declared.Coded.{Coded}
 use Rattle.plane.specs.declared.Layout.{Layout}
 use Rattle.plane.specs.declared.Layout.TheVariants.{Luma}
 use Rattle.plane.specs.Plane.{unshifted, biplanar, word_of, full_code, code_of, value_of}
 use Rattle.plane.specs.Coordinates.{in_reach, held, parity_of, bias_of, unbiased}
-use Rattle.plane.specs.Answer.{sampled_no, sampled_values, coded_no, coded_values, code_tests, at_tests}
+use Rattle.plane.specs.Answer.{code_tests, at_tests}
 
 -- 0 exactly when no number applies, and n exactly when n applies and no lower one does
 abbrev pub AtSays : Type 0
@@ -18,13 +16,6 @@ AtSays = (s : Shape) (bytes : ℕ) (x y : ℤ) → Says (at_tests s bytes x y)
 
 abbrev pub CodeSays : Type 0
 CodeSays = (s : Shape) (bytes : ℕ) (x y : ℤ) → Says (code_tests s bytes x y)
-
--- an answer is settled by its number and its values
-abbrev pub OneSampled : Type 0
-OneSampled = (a b : Sampled) → sampled_no a ≡ sampled_no b → sampled_values a ≡ sampled_values b → a ≡ b
-
-abbrev pub OneCoded : Type 0
-OneCoded = (a b : Coded) → coded_no a ≡ coded_no b → coded_values a ≡ coded_values b → a ≡ b
 
 -- every element is a byte
 abbrev pub AllBytes : List ℕ → Type 0

@@ -10,13 +10,16 @@
 
 ghost use Rattle.std.specs.Prelude.{◌≡◌, ◌+◌, ◌*◌, ◌-◌, ◌/◌, ◌<◌, ◌≤◌, ◌^◌, min, max, get_or};
 ghost use Rattle.laws.specs.Refusal.{lowest};
+ghost use Rattle.refusal.specs.Refusal.{no_of};
 ghost use Rattle.float.specs.Bounds.{Unit};
 ghost use Rattle.plane.specs.Plane.{components, component, alone, sample_bytes, good_shape, plane_bytes, grid_shape, start_of, biplanar, shift, code_of, full_code, value_of, agree, half, chroma_agrees, planar_of, biplanar_of};
 ghost use Rattle.plane.specs.Coordinates.{in_reach, inside, held, parity_of, bias_of, unbiased};
 ghost use Rattle.plane.specs.Answer.{read_tests, GivesCode, GivesValue};
 
+use refusal::Refusal;
+
 // Which samples of its bytes a plane gives. Component, shift and samples per row follow from it.
-#[derive(Clone, Copy)]
+#[derive(Clone, Copy, Debug, PartialEq, Eq)]
 pub enum Layout {
     // One component, codes in the low bits.
     Planar,
@@ -28,7 +31,7 @@ pub enum Layout {
 }
 
 // The width is that of one component. Stride is in bytes.
-#[derive(Clone, Copy)]
+#[derive(Clone, Copy, Debug, PartialEq, Eq)]
 pub struct Shape {
     pub width: u16,
     pub height: u16,
@@ -38,7 +41,7 @@ pub struct Shape {
 }
 
 // The shape of a plane whose codes are not shifted, with nothing beside them.
-#[derive(Clone, Copy)]
+#[derive(Clone, Copy, Debug, PartialEq, Eq)]
 pub struct Grid {
     pub width: u16,
     pub height: u16,
@@ -47,70 +50,52 @@ pub struct Grid {
 }
 
 // The three planes of a frame.
-#[derive(Clone, Copy)]
+#[derive(Clone, Copy, Debug, PartialEq, Eq)]
 pub struct Planes {
     pub luma: Shape,
     pub cb: Shape,
     pub cr: Shape,
 }
 
-#[derive(Clone, Copy)]
-pub enum Coded {
-    Value(u16),
-    Refused(u8),
-}
-
-#[derive(Clone, Copy)]
-pub enum Sampled {
-    Value(f32),
-    Refused(u8),
-}
-
 // How far a coordinate is moved to be held as a natural number: even, so that a row keeps its parity.
 const BIAS: u32 = 65544;
 
-pub fn components_of(layout: Layout) -> usize
-    ensures { (result ≡ components layout) × (result ≤ 2) }
-{
-    match layout {
-        Layout::Planar => 1,
-        Layout::Luma => 1,
-        Layout::First => 2,
-        Layout::Second => 2,
+impl Layout {
+    pub fn components(self) -> usize
+        ensures { (result ≡ components self) × (result ≤ 2) }
+    {
+        match self {
+            Layout::Planar | Layout::Luma => 1,
+            Layout::First | Layout::Second => 2,
+        }
     }
-}
 
-pub fn component_of(layout: Layout) -> usize
-    ensures { (result ≡ component layout) × (result ≤ 1) }
-{
-    match layout {
-        Layout::Planar => 0,
-        Layout::Luma => 0,
-        Layout::First => 0,
-        Layout::Second => 1,
+    pub fn component(self) -> usize
+        ensures { (result ≡ component self) × (result ≤ 1) }
+    {
+        match self {
+            Layout::Planar | Layout::Luma | Layout::First => 0,
+            Layout::Second => 1,
+        }
     }
-}
 
-pub fn is_biplanar(layout: Layout) -> bool
-    ensures { result ≡ biplanar layout }
-{
-    match layout {
-        Layout::Planar => false,
-        Layout::Luma => true,
-        Layout::First => true,
-        Layout::Second => true,
+    pub fn is_biplanar(self) -> bool
+        ensures { result ≡ biplanar self }
+    {
+        self != Layout::Planar
     }
-}
 
-// A row with samples of one component only can be read from end to end.
-pub fn is_alone(layout: Layout) -> bool
-    ensures { result ≡ alone layout }
-{
-    match layout {
-        Layout::Planar => true,
-        Layout::Luma => true,
-        Layout::First => false,
-        Layout::Second => false,
+    // A row with samples of one component only can be read from end to end.
+    pub fn is_alone(self) -> bool
+        ensures { result ≡ alone self }
+    {
+        matches!(self, Layout::Planar | Layout::Luma)
+    }
+
+    pub fn shift(self, depth: u8) -> u8
+        ensures { (result ≡ shift self depth) × (result ≤ 7) }
+    {
+        shift_by(self, depth, spare_bits(depth)) as u8
     }
 }
 
@@ -132,7 +117,7 @@ fn row_bytes(width: u32, depth: u32, layout: Layout) -> usize
     ensures { (result ≡ width * components layout * sample_bytes depth) × (result < 2 ^ 34) }
 {
     times(
-        times(width as usize, components_of(layout)),
+        times(width as usize, layout.components()),
         sample_bytes(depth),
     )
 }
@@ -152,28 +137,56 @@ pub fn within(width: u32, height: u32, depth: u32, stride: u32, layout: Layout) 
         & (row <= stride as usize)
 }
 
-pub fn good_shape(s: Shape) -> bool
-    ensures { result ≡ good_shape s }
-{
-    let layout = s.layout;
-    within(
-        s.width as u32,
-        s.height as u32,
-        s.depth as u32,
-        s.stride,
-        layout,
-    )
+impl Shape {
+    pub fn is_good(self) -> bool
+        ensures { result ≡ good_shape self }
+    {
+        within(
+            u32::from(self.width),
+            u32::from(self.height),
+            u32::from(self.depth),
+            self.stride,
+            self.layout,
+        )
+    }
+
+    pub fn bytes(self) -> usize
+        ensures { result ≡ plane_bytes self }
+    {
+        rows(
+            u32::from(self.height.saturating_sub(1)),
+            self.stride,
+            row_bytes(u32::from(self.width), u32::from(self.depth), self.layout),
+        )
+    }
+
+    pub fn agrees(self, other: Shape) -> bool
+        ensures { result ≡ agree self other }
+    {
+        (self.width == other.width) & (self.height == other.height) & (self.depth == other.depth)
+    }
+
+    // Whether a chroma plane is that of a luma plane of this shape.
+    pub fn chroma_agrees(self, chroma: Shape) -> bool
+        ensures { result ≡ chroma_agrees self chroma }
+    {
+        (chroma.width == half_of(self.width))
+            & (chroma.height == half_of(self.height))
+            & (chroma.depth == self.depth)
+    }
 }
 
-pub fn shape_of(grid: Grid) -> Shape
-    ensures { result ≡ grid_shape grid }
-{
-    Shape {
-        width: grid.width,
-        height: grid.height,
-        depth: grid.depth,
-        stride: grid.stride,
-        layout: Layout::Planar,
+impl From<Grid> for Shape {
+    ghost from_gives = { λ grid shape. shape ≡ grid_shape grid };
+
+    fn from(grid: Grid) -> Shape {
+        Shape {
+            width: grid.width,
+            height: grid.height,
+            depth: grid.depth,
+            stride: grid.stride,
+            layout: Layout::Planar,
+        }
     }
 }
 
@@ -185,44 +198,20 @@ fn rows(y: u32, stride: u32, more: usize) -> usize
     (y as usize) * (stride as usize) + more
 }
 
-fn less_one(n: u16) -> u16
-    ensures { result ≡ n - 1 }
-{
-    if n == 0 { 0 } else { n - 1 }
-}
-
-pub fn plane_bytes(s: Shape) -> usize
-    ensures { result ≡ plane_bytes s }
-{
-    let layout = s.layout;
-    rows(
-        less_one(s.height) as u32,
-        s.stride,
-        row_bytes(s.width as u32, s.depth as u32, layout),
-    )
-}
-
 // Columns, rows and codes are held in 32 bits: of sixteen, the machine code clears the upper half again at
 // each step.
 fn start_of(s: Shape, x: u32, y: u32) -> usize
     requires { (x ≤ 65535) × (y ≤ 65535) }
     ensures { (result ≡ start_of s x y) × (result < 2 ^ 49) }
 {
-    let layout = s.layout;
-    let lane = times(x as usize, components_of(layout)) + component_of(layout);
-    rows(y, s.stride, times(lane, sample_bytes(s.depth as u32)))
-}
-
-fn wide(byte: u8) -> u32
-    ensures { (result ≡ byte) × (result < 256) }
-{
-    byte as u32
+    let lane = times(x as usize, s.layout.components()) + s.layout.component();
+    rows(y, s.stride, times(lane, sample_bytes(u32::from(s.depth))))
 }
 
 fn byte_at(plane: &[u8], i: usize) -> u32
     ensures { (result ≡ get_or plane.now i 0) × (result < 256) }
 {
-    if i < plane.len() { wide(plane[i]) } else { 0 }
+    plane.get(i).map_or(0, |byte| u32::from(*byte))
 }
 
 // Two bytes, the low one first.
@@ -233,37 +222,22 @@ fn pair_at(plane: &[u8], i: usize) -> u32
     byte_at(plane, i) + 256 * byte_at(plane, i + 1)
 }
 
-fn within_depths(depth: u8) -> u32
-    ensures { (result ≡ max 8 (min depth 16)) × (8 ≤ result) × (result ≤ 16) }
-{
-    if depth < 8 {
-        return 8;
-    }
-    if 16 < depth { 16 } else { depth as u32 }
-}
-
 // How many of sixteen bits a depth leaves: shift and largest code both follow from it.
 fn spare_bits(depth: u8) -> u32
     ensures { (result ≡ 16 - max 8 (min depth 16)) × (result ≤ 8) }
 {
-    16 - within_depths(depth)
+    16 - u32::from(depth.clamp(8, 16))
 }
 
 fn shift_by(layout: Layout, depth: u8, spare: u32) -> u32
     requires { spare ≡ 16 - max 8 (min depth 16) }
     ensures { (result ≡ shift layout depth) × (result ≤ 7) }
 {
-    if is_biplanar(layout) & (9 <= depth) {
+    if layout.is_biplanar() & (9 <= depth) {
         spare
     } else {
         0
     }
-}
-
-pub fn shift_of(layout: Layout, depth: u8) -> u8
-    ensures { (result ≡ shift layout depth) × (result ≤ 7) }
-{
-    shift_by(layout, depth, spare_bits(depth)) as u8
 }
 
 // 2^depth - 1, the largest code of a depth that leaves so many bits.
@@ -280,62 +254,35 @@ pub fn full_code(depth: u8) -> u16
     full_by(spare_bits(depth)) as u16
 }
 
-// A capture card may leave stray bits above a code: a word above the largest code counts as that.
-pub fn cut(word: u16, full: u16) -> u16
-    ensures { (result ≡ min word full) × (result ≤ full) }
-{
-    if word < full { word } else { full }
-}
-
-// The same of a word that is held in 32 bits.
-fn cut_wide(word: u32, largest: u32) -> u32
-    ensures { result ≡ min word largest }
-{
-    if word < largest { word } else { largest }
-}
-
-fn shifted(word: u32, right: u32) -> u32
-    requires { right ≤ 7 }
-    ensures { result ≡ word / 2 ^ right }
-{
-    word >> right
-}
-
-// A code held in 32 bits, of any shape; 0 past the end. A byte is neither shifted nor above the largest code.
+// A code held in 32 bits, of any shape; 0 past the end. A capture card may leave stray bits above a code: a word above
+// the largest code counts as that. A byte is neither shifted nor above the largest code.
 // What is spare stands before the test of the depth, so that the compiler shares it with `value_at`.
 fn code_wide(plane: &[u8], s: Shape, x: u32, y: u32) -> u32
     requires { (x ≤ 65535) × (y ≤ 65535) }
     ensures { (result ≡ code_of plane.now s x y) × (result ≤ 65535) }
 {
-    let layout = s.layout;
     let i = start_of(s, x, y);
     let spare = spare_bits(s.depth);
     if s.depth <= 8 {
         return byte_at(plane, i);
     }
-    let word = pair_at(plane, i);
-    let right = shift_by(layout, s.depth, spare);
-    let full = full_by(spare);
-    cut_wide(shifted(word, right), full)
+    let right = shift_by(s.layout, s.depth, spare);
+    (pair_at(plane, i) >> right).min(full_by(spare))
 }
 
 // A code, of any shape; 0 past the end.
 pub fn code_at(plane: &[u8], s: Shape, x: u16, y: u16) -> u16
     ensures { result ≡ code_of plane.now s x y }
 {
-    code_wide(plane, s, x as u32, y as u32) as u16
+    code_wide(plane, s, u32::from(x), u32::from(y)) as u16
 }
 
 // The coordinate c - 65,544 brought into 0 .. size - 1.
 fn hold(size: u16, c: u32) -> u32
     ensures { (result ≡ held size (unbiased c)) × (result ≤ 65535) }
 {
-    let at = if c < BIAS { 0 } else { c - BIAS };
-    if at < size as u32 {
-        at
-    } else {
-        less_one(size) as u32
-    }
+    c.saturating_sub(BIAS)
+        .min(u32::from(size.saturating_sub(1)))
 }
 
 // The value at held coordinates (`biased`), of any shape.
@@ -376,64 +323,37 @@ fn is_inside(x: i32, size: u16) -> bool
     (0 <= x) & (x < size as i32)
 }
 
-// The number of a read: 3, 4 or 6.
-fn read_no(coordinates: bool, s: Shape, bytes: usize) -> u8
-    ensures { result ≡ lowest (read_tests coordinates s bytes) }
+// Whether a read can be done, of a plane of so many bytes. Numbers 3, 4 and 6.
+#[tactic(auto, unfolding(laws::specs::Refusal::lowest))]
+fn readable(coordinates: bool, s: Shape, bytes: usize) -> Result<(), Refusal>
+    ensures { no_of result ≡ lowest (read_tests coordinates s bytes) }
 {
-    refusal::test(
-        refusal::OUTSIDE,
-        coordinates,
-        refusal::test(
-            refusal::SHAPE,
-            good_shape(s),
-            refusal::test(refusal::SHORT_INPUT, plane_bytes(s) <= bytes, refusal::DONE),
-        ),
-    )
+    Refusal::Outside.unless(coordinates)?;
+    Refusal::Shape.unless(s.is_good())?;
+    Refusal::ShortInput.unless(s.bytes() <= bytes)
 }
 
 // The code at a place inside the plane.
-pub fn code(plane: &[u8], s: Shape, x: i32, y: i32) -> Coded
+pub fn code(plane: &[u8], s: Shape, x: i32, y: i32) -> Result<u16, Refusal>
     ensures { GivesCode result plane.now s x y }
 {
     let inner = is_inside(x, s.width) & is_inside(y, s.height);
-    let no = read_no(inner, s, plane.len());
-    if no == 0 {
-        Coded::Value(code_at(plane, s, x as u16, y as u16))
-    } else {
-        Coded::Refused(no)
-    }
+    readable(inner, s, plane.len())?;
+    Ok(code_at(plane, s, x as u16, y as u16))
 }
 
 // The value at coordinates that may lie outside the plane.
-pub fn at(plane: &[u8], s: Shape, x: i32, y: i32) -> Sampled
+pub fn at(plane: &[u8], s: Shape, x: i32, y: i32) -> Result<f32, Refusal>
     ensures { GivesValue result plane.now s x y }
 {
-    let no = read_no(in_reach(x) & in_reach(y), s, plane.len());
-    if no == 0 {
-        Sampled::Value(value_at(plane, s, biased(x), biased(y)))
-    } else {
-        Sampled::Refused(no)
-    }
-}
-
-pub fn planes_agree(a: Shape, b: Shape) -> bool
-    ensures { result ≡ agree a b }
-{
-    (a.width == b.width) & (a.height == b.height) & (a.depth == b.depth)
+    readable(in_reach(x) & in_reach(y), s, plane.len())?;
+    Ok(value_at(plane, s, biased(x), biased(y)))
 }
 
 pub fn half_of(n: u16) -> u16
     ensures { result ≡ half n }
 {
-    ((n as u32 + 1) / 2) as u16
-}
-
-pub fn chroma_agrees(luma: Shape, chroma: Shape) -> bool
-    ensures { result ≡ chroma_agrees luma chroma }
-{
-    let columns = half_of(luma.width);
-    let rows = half_of(luma.height);
-    (chroma.width == columns) & (chroma.height == rows) & (chroma.depth == luma.depth)
+    n.div_ceil(2)
 }
 
 impl Planes {
@@ -451,23 +371,23 @@ impl Planes {
         let rows = half_of(height);
         Planes {
             luma: Shape {
-                width: width,
-                height: height,
-                depth: depth,
+                width,
+                height,
+                depth,
                 stride: luma_stride,
                 layout: Layout::Planar,
             },
             cb: Shape {
                 width: columns,
                 height: rows,
-                depth: depth,
+                depth,
                 stride: cb_stride,
                 layout: Layout::Planar,
             },
             cr: Shape {
                 width: columns,
                 height: rows,
-                depth: depth,
+                depth,
                 stride: cr_stride,
                 layout: Layout::Planar,
             },
@@ -488,23 +408,23 @@ impl Planes {
         let rows = half_of(height);
         Planes {
             luma: Shape {
-                width: width,
-                height: height,
-                depth: depth,
+                width,
+                height,
+                depth,
                 stride: luma_stride,
                 layout: Layout::Luma,
             },
             cb: Shape {
                 width: columns,
                 height: rows,
-                depth: depth,
+                depth,
                 stride: chroma_stride,
                 layout: Layout::First,
             },
             cr: Shape {
                 width: columns,
                 height: rows,
-                depth: depth,
+                depth,
                 stride: chroma_stride,
                 layout: Layout::Second,
             },

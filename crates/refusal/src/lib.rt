@@ -1,36 +1,67 @@
-// The numbers that a call gives back, each with the words of docs/RULES.md ("What the desk gets back"), and
-// the lowest of those that apply.
+// Why a call is refused, in the words of docs/RULES.md ("What the desk gets back"), and the lowest of those that
+// apply. A call that gives a `Result` ends its tests with `?`, one after another, in the order of their numbers.
 #![tactic(auto)]
 
-ghost use Rattle.std.specs.Prelude.{◌≡◌, cond};
+ghost use Rattle.std.specs.Prelude.{◌≡◌, true, false, MatchResult};
+ghost use Rattle.refusal.specs.Refusal.{number_of, no_of};
 
-// Done.
-pub const DONE: u8 = 0;
-// Readback has no plane, or more than 3.
-pub const PLANE_COUNT: u8 = 1;
-// Readback has only luma.
-pub const ONLY_LUMA: u8 = 2;
-// A code names nothing, or a coordinate is outside.
-pub const OUTSIDE: u8 = 3;
-// A shape, or an RGBA width or height, is outside the bounds under Planes.
-pub const SHAPE: u8 = 4;
-// Planes that must agree differ.
-pub const DIFFER: u8 = 5;
-// A lent input is shorter than its shape needs.
-pub const SHORT_INPUT: u8 = 6;
-// A lent output or store is too short for what the call writes.
-pub const SHORT_OUTPUT: u8 = 7;
-// One of the nine colour numbers, or of the three samples given to `to_rgb`, is outside its range or a NaN.
-pub const COLOUR: u8 = 8;
-// A push of either kind comes when the detector has taken 4,000,000,000 frames since fresh or reset.
-pub const TOO_MANY_FRAMES: u8 = 9;
-// `predict` is asked more than 1,000,000 ahead.
-pub const TOO_FAR_AHEAD: u8 = 10;
+use std::error::Error;
+use std::fmt;
 
-// One test in front of others, as the definition `lowest` of `laws` reads a list: the number where the
-// test fails, and where it passes what those behind it give. Behind the last stands `DONE`.
-pub fn test(number: u8, passes: bool, behind: u8) -> u8
-    ensures { result ≡ cond passes behind number }
+#[derive(Clone, Copy, Debug, PartialEq, Eq)]
+pub enum Refusal {
+    PlaneCount = 1,
+    OnlyLuma = 2,
+    Outside = 3,
+    Shape = 4,
+    Differ = 5,
+    ShortInput = 6,
+    ShortOutput = 7,
+    Colour = 8,
+    TooManyFrames = 9,
+    TooFarAhead = 10,
+}
+
+impl Refusal {
+    pub fn number(self) -> u8
+        ensures { result ≡ number_of self }
+    {
+        self as u8
+    }
+
+    // One test: `Ok` where it passes.
+    pub fn unless(self, passes: bool) -> Result<(), Refusal>
+        ensures { MatchResult result (λ _. passes ≡ true) (λ refused. (passes ≡ false) × (refused ≡ self)) }
+    {
+        if passes { Ok(()) } else { Err(self) }
+    }
+}
+
+impl fmt::Display for Refusal {
+    fn fmt<W: fmt::Write>(&self, f: &mut fmt::Formatter<W>) -> fmt::Result {
+        f.write_str(match self {
+            Refusal::PlaneCount => "readback has no plane, or more than 3",
+            Refusal::OnlyLuma => "readback has only luma",
+            Refusal::Outside => "a code names nothing, or a coordinate is outside",
+            Refusal::Shape => "a shape, or an RGBA width or height, is outside its bounds",
+            Refusal::Differ => "planes that must agree differ",
+            Refusal::ShortInput => "a lent input is shorter than its shape needs",
+            Refusal::ShortOutput => "a lent output or store is too short for what the call writes",
+            Refusal::Colour => "a colour number or sample is outside its range or a NaN",
+            Refusal::TooManyFrames => "the detector has taken 4,000,000,000 frames",
+            Refusal::TooFarAhead => "more than 1,000,000 frames ahead",
+        })
+    }
+}
+
+impl Error for Refusal {}
+
+// The number that a host gets: 0 for done.
+pub fn number<T: Drop>(answer: Result<T, Refusal>) -> u8
+    ensures { result ≡ no_of answer }
 {
-    if passes { behind } else { number }
+    match answer {
+        Ok(_) => 0,
+        Err(refusal) => refusal.number(),
+    }
 }

@@ -1,0 +1,2 @@
+-- What holds of the definitions here.
+pub mod Claims

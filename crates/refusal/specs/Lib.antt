@@ -1,0 +1,3 @@
+-- The definitions that contracts about refusals cite.
+pub mod Refusal
+pub mod Claims

@@ -1,0 +1,26 @@
+-- A refusal's number (docs/RULES.md, "What the desk gets back"), and an answer as its number and its value.
+use Rattle.std.specs.Prelude.{ℕ, List, [], ◌∷◌, Result, Ok, Err}
+use Rattle.refusal.specs.declared.Refusal.{Refusal}
+use Rattle.refusal.specs.declared.Refusal.TheVariants as refusal
+
+abbrev pub number_of : Refusal → ℕ
+number_of refusal.PlaneCount = 1
+number_of refusal.OnlyLuma = 2
+number_of refusal.Outside = 3
+number_of refusal.Shape = 4
+number_of refusal.Differ = 5
+number_of refusal.ShortInput = 6
+number_of refusal.ShortOutput = 7
+number_of refusal.Colour = 8
+number_of refusal.TooManyFrames = 9
+number_of refusal.TooFarAhead = 10
+
+-- the number of an answer: 0 where it is a value, and a refusal's own
+abbrev pub no_of : {A : Type 0} → Result A Refusal → ℕ
+no_of (Ok x) = 0
+no_of (Err refused) = number_of refused
+
+-- the value of an answer, and none of a refusal
+abbrev pub values_of : {A : Type 0} → Result A Refusal → List A
+values_of (Ok x) = x ∷ []
+values_of (Err refused) = []
