@@ -527,6 +527,7 @@ fn judge(
 }
 
 // The samples of a part, row by row, laid end to end.
+#[tactic(auto, using(crate::proofs::Judged::judged))]
 pub fn part(
     out: &mut [f32],
     making: filter::Making,
