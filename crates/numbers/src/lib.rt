@@ -12,7 +12,7 @@ use plane::{Grid, Layout, Shape};
 // A plane's shape as the host gives it. The numbers are wider than a shape's own, so that none can wrap
 // into the bounds; a call refuses those outside.
 #[repr(C)]
-#[derive(Clone, Copy)]
+#[derive(Clone, Copy, Debug, PartialEq, Eq)]
 pub struct PlaneNumbers {
     // Samples of one component in a row.
     pub width: u32,
@@ -29,7 +29,7 @@ pub struct PlaneNumbers {
 // The shape of a plane whose codes are not shifted: of a picture, or of a field, whose rows are
 // its lines. The numbers are wider than a shape's own too.
 #[repr(C)]
-#[derive(Clone, Copy)]
+#[derive(Clone, Copy, Debug, PartialEq, Eq)]
 pub struct GridNumbers {
     // Samples in a row.
     pub width: u32,
@@ -66,12 +66,19 @@ pub fn at_most_255(n: u32) -> u8
 pub fn shape_named(numbers: PlaneNumbers) -> Shape
     ensures { result ≡ cut (shape_named numbers) }
 {
+    let PlaneNumbers {
+        width,
+        height,
+        depth,
+        stride,
+        layout,
+    } = numbers;
     Shape {
-        width: at_most_65535(numbers.width),
-        height: at_most_65535(numbers.height),
-        depth: at_most_255(numbers.depth),
-        stride: numbers.stride,
-        layout: layout_named(numbers.layout),
+        width: at_most_65535(width),
+        height: at_most_65535(height),
+        depth: at_most_255(depth),
+        stride,
+        layout: layout_named(layout),
     }
 }
 
