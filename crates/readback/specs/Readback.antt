@@ -1,9 +1,7 @@
 -- A frame read back from a device (docs/RULES.md, "Fields and readback"; the source is weave.rs): the sizes that `readback_sizes` tells, the
 -- numbers of both calls, and the three planes that `readback_copy` copies out.
 use Rattle.std.specs.Prelude.{ℕ, ◌*◌, ◌/◌, ◌%◌, Bool, cond, ◌&&◌, List, [], ◌∷◌, ◌++◌, leb, eqb, length}
-use denote.MutBor.{MutBor}
-use denote.Triple.Both.{Both}
-use Rattle.laws.specs.Lent.{Slice}
+use Rattle.laws.specs.Lent.{Slice, Output}
 use Rattle.laws.specs.Refusal.{lowest, written}
 use Rattle.laws.specs.Rows.{laid, over}
 use Rattle.plane.specs.declared.Shape.{Shape}
@@ -86,10 +84,6 @@ readback_tests r luma second third luma_room cb_room cr_room =
 
 abbrev pub readback_no : Readback → ℕ → ℕ → ℕ → ℕ → ℕ → ℕ → ℕ
 readback_no r luma second third luma_room cb_room cr_room = lowest (readback_tests r luma second third luma_room cb_room cr_room)
-
--- an output as an `ensures` has it: `.entry.now` is what stands there when the call begins
-abbrev pub Output : Type 0 → Type 0
-Output A = Both (MutBor (List ℕ)) A
 
 -- the same of what a call is lent: three planes, and for the copy three outputs
 abbrev pub sizes_no_of : {A B C : Type 0} → Readback → Slice A → Slice B → Slice C → ℕ
