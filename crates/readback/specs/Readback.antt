@@ -9,8 +9,6 @@ use Rattle.plane.specs.declared.Layout.TheVariants.{Luma, First, Second}
 use Rattle.plane.specs.Plane.{good_shape, plane_bytes, sample_bytes, word_of, half}
 use Rattle.readback.specs.declared.Readback.{Readback}
 use Rattle.readback.specs.declared.Sizes.{Sizes}
-use Rattle.readback.specs.declared.Needed.{Needed}
-use Rattle.readback.specs.declared.Needed.TheVariants.{Value, Refused}
 
 -- ---- the planes that were read back
 
@@ -48,15 +46,6 @@ packed_bytes s = s.height * (s.width * sample_bytes s.depth)
 -- the bytes that each output needs
 abbrev pub sizes_of : Readback → Sizes
 sizes_of r = record { luma = packed_bytes (luma_shape r); cb = packed_bytes (cb_shape r); cr = packed_bytes (cr_shape r) }
-
--- An answer by its cases: `Value` is number 0 and its sizes, a refusal its number and no sizes.
-abbrev pub needed_no : Needed → ℕ
-needed_no (Value sizes) = 0
-needed_no (Refused n) = n
-
-abbrev pub needed_values : Needed → List Sizes
-needed_values (Value sizes) = sizes ∷ []
-needed_values (Refused n) = []
 
 -- ---- the numbers
 
