@@ -210,12 +210,11 @@ fn locked_by(ring: &[u8; 15], place: usize, n: u64, held: usize) -> u8
     ensures { result ≡ locked_by (window ring.now place n held) n }
 {
     let phase = candidate(ring, place, n, held);
-    if phase < NO_PHASE {
-        if step_of(phase, n) < 2 {
-            return phase;
-        }
+    if phase < NO_PHASE && step_of(phase, n) < 2 {
+        phase
+    } else {
+        NO_PHASE
     }
-    NO_PHASE
 }
 
 // The same as `locked_by`, and sooner where the frames are too few for the repeats and moves that a
@@ -259,14 +258,15 @@ fn cadence_by(phase: u8, n: u64) -> Cadence
 fn foretell(phase: u8, since: u64, at: u64) -> Cadence
     ensures { result ≡ foretold phase since at }
 {
-    if phase < NO_PHASE {
-        let step = step_of(phase, at);
-        if at.saturating_sub(step as u64) <= since {
-            return Cadence::None;
-        }
-        return BECOMES[step];
+    if NO_PHASE <= phase {
+        return Cadence::None;
     }
-    Cadence::None
+    let step = step_of(phase, at);
+    if at.saturating_sub(step as u64) <= since {
+        Cadence::None
+    } else {
+        BECOMES[step]
+    }
 }
 
 fn stills_after(stills: usize, symbol: Symbol) -> usize
@@ -370,9 +370,9 @@ fn take_symbol(ring: &mut [u8; 15], course: Course, symbol: Symbol) -> Course
     if after.phase < NO_PHASE {
         return after;
     }
-    let phase = locked_among(ring, course.next, course.taken, after.held);
+    let found = locked_among(ring, course.next, course.taken, after.held);
     Course {
-        phase: phase,
+        phase: found,
         ..after
     }
 }
