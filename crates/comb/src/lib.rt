@@ -58,8 +58,8 @@ fn bend(up: u32, here: u32, down: u32) -> u32
     (2 * here).abs_diff(up + down)
 }
 
-// The same of codes below 2^15, in the sixteen bits that they have: a vector holds twice as many. No plainer as
-// one with `bend`: generic sums and products take a trait of their own.
+// The same of codes below 2^15, in the sixteen bits that they have: a vector holds twice as many. With `bend` in its
+// place the loop takes twice as long.
 fn low_bend(up: u16, here: u16, down: u16) -> u16
     requires { (up ≤ 32767) × (here ≤ 32767) × (down ≤ 32767) }
     ensures { (result ≡ apart (2 * here) (up + down)) × (result ≤ 65534) }

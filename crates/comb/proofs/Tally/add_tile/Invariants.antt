@@ -10,6 +10,6 @@ use Rattle.comb.proofs.Tally.add_tile.Given as goal
 
 abbrev pub invariant-loop-x : goal.invariant-loop-x
 invariant-loop-x l = record {
-  exact : in_all l.self ≡ in_all l.initial.self + sum_over l.x (bend_in (Cut l.full) l.up l.here l.down);
+  exact : in_all l.self ≡ in_all l.initial.self + sum_over l.x (bend_in (Cut l.full) l.fn.rows.up.now l.fn.rows.here.now l.fn.rows.down.now);
   room : (k : ℕ) → l.x ≤ k → get_or l.self.columns k 0 + 2 * l.full ≤ l.self.most;
 }
