@@ -4,7 +4,7 @@ use lib.Dec.{le→leb}
 use lib.Ieee.{in_float}
 use Rattle.filter.specs.Filter.{slanted_of}
 use Rattle.filter.proofs.Offsets.{step_away}
-use Rattle.filter.proofs.slanted.Goals as goal
+use Rattle.filter.proofs.Lent.slanted.Goals as goal
 
 pub int_to_float-result : goal.int_to_float-result
 unfolding in_float
