@@ -1,7 +1,8 @@
 -- What a call of `picture_of` that gets 0 has shown: any two of its three frames may serve beside the current one, and every part of theirs that
 -- lies within and has room gets 0 too.
 use mathlib.Core.Path.{◌≡◌, refl, sym, ap, ap₂, subst, ◌∙◌}
-use mathlib.Core.Bool.{Bool, true, ◌&&◌}
+use mathlib.Core.Bool.{Bool, true, false, cond, ◌&&◌}
+use Rattle.std.proofs.Common.{Result, Ok, Err, MatchResult}
 use Prim.Native.Nat.{ℕ, ◌+◌, ◌*◌, ◌≤◌}
 use borrow.Author.Tests.{leb-true, eqb-true, eq-eqb, le-leb}
 use lib.Dec.{leb, eqb}
@@ -9,6 +10,8 @@ use lib.ListN.{length}
 use Rattle.laws.proofs.Bools.{halves}
 use Rattle.laws.specs.Refusal.{lowest, written, rising}
 use Rattle.laws.proofs.Refusal.{AllPass, all_pass}
+use Rattle.refusal.specs.declared.Refusal.{Refusal}
+use Rattle.refusal.specs.Refusal.{number_of, no_of}
 use Rattle.field.specs.declared.Source.{Source}
 use Rattle.field.specs.declared.Source.TheVariants as source
 use Rattle.plane.specs.declared.Shape.{Shape}
@@ -38,6 +41,13 @@ part_done {m} {t} place room j inside fits =
 -- what is written at 0
 pub done_written : {A : Type 0} {n : ℕ} {x y : A} (old : A) → n ≡ 0 → x ≡ written n y old → x ≡ y
 done_written {A} {n} {x} {y} old z e = e ∙ ap (λ (k : ℕ). written k y old) z
+
+-- the last of several tests, by its number
+pub last_test :
+    (passes : Bool) (refusal : Refusal) (r : Result (Unit {0}) Refusal) →
+    MatchResult r (λ _. passes ≡ true) (λ refused. (passes ≡ false) × (refused ≡ refusal)) → no_of r ≡ cond passes 0 (number_of refusal)
+last_test passes refusal (Ok v) e = rw e
+last_test passes refusal (Err refused) e = rw e.0 (ap number_of e.1)
 
 -- ---- shapes that agree
 pub record Alike (a b : Shape) : Type 0 where

@@ -18,7 +18,9 @@ use Rattle.colour.specs.declared.Conversion.{Conversion}
 use Rattle.colour.specs.Colour.{converted_of}
 use Rattle.picture.specs.declared.Asked.{Asked}
 use Rattle.picture.specs.declared.Recipe.{Recipe}
-use Rattle.picture.specs.Picture.{served, quality_for, pixel_of}
+use Rattle.picture.specs.declared.Lent.{Lent}
+use Rattle.picture.specs.declared.Trio.{Trio}
+use Rattle.picture.specs.Picture.{served, quality_for, pixel_of, Frames, frames_of}
 
 -- ---- which frames serve
 
@@ -51,6 +53,20 @@ serving_in before cur after = record { before = before.now; cur = cur.now; after
 
 abbrev pub serving : {A B C : Type 0} → Slice A → Slice B → Slice C → Serving
 serving before cur after = serving_in before.entry cur.entry after.entry
+
+-- and of frames of which all three planes are lent
+abbrev pub lumas_in : Trio → Serving
+lumas_in t = serving_in t.before.luma t.cur.luma t.after.luma
+
+abbrev pub cbs_in : Trio → Serving
+cbs_in t = serving_in t.before.cb t.cur.cb t.after.cb
+
+abbrev pub crs_in : Trio → Serving
+crs_in t = serving_in t.before.cr t.cur.cr t.after.cr
+
+abbrev pub frames_in : Asked → Lent → Lent → Lent → Frames
+frames_in asked previous current next =
+    frames_of asked previous.luma.now previous.cb.now previous.cr.now current.luma.now current.cb.now current.cr.now next.luma.now next.cb.now next.cr.now
 
 -- ---- what was judged before a row is made
 

@@ -1,11 +1,10 @@
 -- A picture of three frames (docs/RULES.md, "Colour and comb"; the source is `picture_of` in filter.rs): its number, and its bytes.
-use Rattle.std.specs.Prelude.{ℕ, ◌*◌, ◌/◌, Bool, ◌&&◌, List, [], ◌∷◌, leb, pos, length}
+use Rattle.std.specs.Prelude.{ℕ, ◌*◌, ◌/◌, Bool, ◌&&◌, List, [], ◌∷◌, leb, pos, length, Option, Some, None}
 use Rattle.laws.specs.Lent.{Slice}
 use Rattle.laws.specs.Refusal.{lowest, written}
 use Rattle.laws.specs.Rows.{laid, over}
 use Rattle.field.specs.declared.Output.{Output}
-use Rattle.field.specs.declared.Chosen.{Chosen}
-use Rattle.field.specs.declared.Chosen.TheVariants as chosen
+use Rattle.field.specs.declared.Parity.{Parity}
 use Rattle.field.specs.declared.Source.{Source}
 use Rattle.field.specs.declared.Source.TheVariants as source
 use Rattle.plane.specs.declared.Planes.{Planes}
@@ -84,9 +83,9 @@ served source.Current previous current following = current
 served source.Next previous current following = following
 
 -- No field means Weave.
-abbrev pub quality_for : Chosen → Quality → Quality
-quality_for (chosen.Field parity) quality = quality
-quality_for chosen.Neither quality = Weave
+abbrev pub quality_for : Option Parity → Quality → Quality
+quality_for (Some parity) quality = quality
+quality_for None quality = Weave
 
 -- The colour of a pixel. Chroma is read at (x/2, y/2), through `sample`, so with that row's own parity.
 unfoldable pub colour_at : Conversion → Quality → Rows → Frame → Frame → Frame → ℕ → ℕ → Rgb

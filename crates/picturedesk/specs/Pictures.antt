@@ -1,11 +1,10 @@
 -- Pictures by number (docs/RULES.md, "Colour and comb"; "What the desk gets back": 3 for a code that names nothing).
-use Rattle.std.specs.Prelude.{ℕ, Bool, false, cond, ◌&&◌, List, ◌∷◌, leb, eqb, length}
+use Rattle.std.specs.Prelude.{ℕ, Bool, false, cond, ◌&&◌, List, ◌∷◌, leb, eqb, length, Option, Some, None}
 use Rattle.std.specs.Borrow.{MutBor}
 use denote.Triple.Both.{Both}
 use Rattle.laws.specs.Lent.{Slice}
 use Rattle.laws.specs.Refusal.{lowest}
-use Rattle.field.specs.declared.Chosen.{Chosen}
-use Rattle.field.specs.declared.Chosen.TheVariants as chosen
+use Rattle.field.specs.declared.Parity.{Parity}
 use Rattle.field.specs.declared.Source.{Source}
 use Rattle.field.specs.declared.Source.TheVariants as source
 use Rattle.field.specs.declared.Output.{Output}
@@ -20,8 +19,8 @@ use Rattle.picturedesk.specs.declared.FrameNumbers.{FrameNumbers}
 use Rattle.picturedesk.specs.declared.OutputNumbers.{OutputNumbers}
 
 -- 0 top, 1 bottom, 2 neither
-abbrev pub chosen_named : ℕ → Chosen
-chosen_named code = cond (leb code 1) (chosen.Field (parity_named code)) chosen.Neither
+abbrev pub chosen_named : ℕ → Option Parity
+chosen_named code = cond (leb code 1) (Some (parity_named code)) None
 
 -- 0 the previous frame, 1 the current one, 2 the next
 abbrev pub source_named : ℕ → Source

@@ -6,12 +6,18 @@ ghost use Rattle.std.specs.Prelude.{◌≡◌};
 ghost use Rattle.picturedesk.specs.Inner.{cut_planes, cut_asked};
 ghost use Rattle.picturedesk.specs.Pictures.{chosen_named, source_named, output_named, planes_named, layouts_named, output_good, all_named, asked_named, named_no, named_out};
 
+use colour::Conversion;
+use field::{Output, Parity, Source};
+use filter::Quality;
 use numbers::PlaneNumbers;
+use picture::Asked;
+use plane::Planes;
+use refusal::Refusal;
 
 // The shapes of a frame's three planes. Where two components share a plane, both name it, and the same
 // bytes are lent twice.
 #[repr(C)]
-#[derive(Clone, Copy)]
+#[derive(Clone, Copy, Debug, PartialEq, Eq)]
 pub struct FrameNumbers {
     pub luma: PlaneNumbers,
     pub cb: PlaneNumbers,
@@ -20,7 +26,7 @@ pub struct FrameNumbers {
 
 // What is shown of three frames.
 #[repr(C)]
-#[derive(Clone, Copy)]
+#[derive(Clone, Copy, Debug, PartialEq, Eq)]
 pub struct OutputNumbers {
     // The field: 0 top, 1 bottom, 2 neither, which is Weave whatever the quality.
     pub field: u32,
@@ -32,41 +38,34 @@ pub struct OutputNumbers {
     pub later: u32,
 }
 
-fn chosen_named(code: u32) -> field::Chosen
+fn chosen_named(code: u32) -> Option<Parity>
     ensures { result ≡ chosen_named code }
 {
     if code <= 1 {
-        field::Chosen::Field(field::Parity::named(code as u64))
+        Some(Parity::named(u64::from(code)))
     } else {
-        field::Chosen::Neither
+        None
     }
 }
 
-fn source_named(code: u32) -> field::Source
+fn source_named(code: u32) -> Source
     ensures { result ≡ source_named code }
 {
-    if code == 0 {
-        return field::Source::Previous;
-    }
-    if code == 1 {
-        field::Source::Current
-    } else {
-        field::Source::Next
+    match code {
+        0 => Source::Previous,
+        1 => Source::Current,
+        _ => Source::Next,
     }
 }
 
-fn output_named(n: OutputNumbers) -> field::Output
+fn output_named(n: OutputNumbers) -> Output
     ensures { result ≡ output_named n }
 {
-    let shown = chosen_named(n.field);
-    let mate = chosen_named(n.weave);
-    let earlier = source_named(n.earlier);
-    let later = source_named(n.later);
-    field::Output {
-        field: shown,
-        weave: mate,
-        before: earlier,
-        after: later,
+    Output {
+        field: chosen_named(n.field),
+        weave: chosen_named(n.weave),
+        before: source_named(n.earlier),
+        after: source_named(n.later),
         at: 0,
         of: 1,
         matched: false,
@@ -79,16 +78,13 @@ fn output_good(n: OutputNumbers) -> bool
     (n.field <= 2) & (n.weave <= 2) & (n.earlier <= 2) & (n.later <= 2)
 }
 
-fn planes_named(n: FrameNumbers) -> plane::Planes
+fn planes_named(n: FrameNumbers) -> Planes
     ensures { result ≡ cut_planes (planes_named n) }
 {
-    let luma = numbers::shape_named(n.luma);
-    let cb = numbers::shape_named(n.cb);
-    let cr = numbers::shape_named(n.cr);
-    plane::Planes {
-        luma: luma,
-        cb: cb,
-        cr: cr,
+    Planes {
+        luma: numbers::shape_named(n.luma),
+        cb: numbers::shape_named(n.cb),
+        cr: numbers::shape_named(n.cr),
     }
 }
 
@@ -118,17 +114,17 @@ fn all_named(
 fn asked_named(
     quality: u8,
     output: OutputNumbers,
-    conversion: colour::Conversion,
+    conversion: Conversion,
     previous: FrameNumbers,
     current: FrameNumbers,
     next: FrameNumbers,
-) -> picture::Asked
+) -> Asked
     ensures { result ≡ cut_asked (asked_named quality output conversion previous current next) }
 {
-    picture::Asked {
-        quality: filter::Quality::named(quality),
+    Asked {
+        quality: Quality::named(quality),
         output: output_named(output),
-        conversion: conversion,
+        conversion,
         previous: planes_named(previous),
         current: planes_named(current),
         next: planes_named(next),
@@ -141,7 +137,7 @@ fn asked_named(
 pub extern "C" fn desk_picture<'a>(
     quality: u8,
     output: OutputNumbers,
-    conversion: colour::Conversion,
+    conversion: Conversion,
     previous: FrameNumbers,
     previous_luma: &'a [u8],
     previous_cb: &'a [u8],
@@ -160,10 +156,10 @@ pub extern "C" fn desk_picture<'a>(
     ensures out_after { out.new ≡ named_out result quality output conversion previous current next previous_luma previous_cb previous_cr current_luma current_cb current_cr next_luma next_cb next_cr out }
 {
     if !all_named(quality, output, previous, current, next) {
-        return refusal::OUTSIDE;
+        return Refusal::Outside.number();
     }
     let asked = asked_named(quality, output, conversion, previous, current, next);
-    picture::picture_of(
+    refusal::number(picture::picture_of(
         out,
         asked,
         previous_luma,
@@ -175,5 +171,5 @@ pub extern "C" fn desk_picture<'a>(
         next_luma,
         next_cb,
         next_cr,
-    )
+    ))
 }

@@ -1,5 +1,5 @@
 use mathlib.Core.List.{List}
-use Prim.Native.Nat.{ℕ, ◌-◌, ◌/◌}
+use Prim.Native.Nat.{ℕ, ◌/◌}
 use lib.ListN.{length, get_or}
 use lib.Ieee.{Float, nan}
 use Rattle.laws.proofs.Lists.{Stacked}
@@ -13,6 +13,3 @@ pixel conversion luma cb cr x = pixel_of (converted_of conversion (get_or luma x
 
 abbrev pub invariant-loop-x : goal.invariant-loop-x
 invariant-loop-x l = Stacked (pixel l.conversion l.luma l.cb l.cr) 4 (length l.luma) l.initial.out l.out l.x
-
-abbrev pub decreases-loop-x : goal.decreases-loop-x
-decreases-loop-x l = length l.luma - l.x

@@ -1,9 +1,5 @@
-use Prim.Native.Nat.{◌-◌}
 use Rattle.picture.specs.Inner.{painted_at, Tiled}
 use Rattle.picture.proofs.paint_rows.Given as goal
 
 abbrev pub invariant-loop-y : goal.invariant-loop-y
-invariant-loop-y l = Tiled (painted_at l.conversion l.width l.luma l.cb l.cr) l.count l.stride l.left l.span l.initial.out l.out l.y
-
-abbrev pub decreases-loop-y : goal.decreases-loop-y
-decreases-loop-y l = l.count - l.y
+invariant-loop-y l = Tiled (painted_at l.conversion l.width l.luma l.cb l.cr) l.y-end l.stride l.left l.span l.initial.out l.out l.y

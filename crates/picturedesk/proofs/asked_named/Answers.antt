@@ -1,4 +1,0 @@
-use Rattle.picturedesk.proofs.asked_named.Goals as goal
-
-pub returns : goal.returns
-returns c = cc
