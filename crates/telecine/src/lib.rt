@@ -239,8 +239,8 @@ impl Detector {
                     ring,
                     course: stepped.course,
                 },
+                kept: self.kept,
                 last: stepped.last,
-                ..self
             },
             answer: stepped.answer,
         }
