@@ -11,11 +11,16 @@ use Rattle.laws.proofs.Rows.{row_within}
 use Rattle.laws.proofs.Lists.{Filled, length_listed, same_listed, part_length}
 use Rattle.plane.specs.declared.Shape.{Shape}
 use Rattle.fill.specs.declared.Place.{Place}
-use Rattle.fill.specs.Lines.{Lent}
+use Rattle.fill.specs.Lines.{Lent, Tiled}
 
--- where a tile ends that starts within the line
-pub tile_ends : {x to long : ℕ} → x < long → to ≡ min (x + 512) long → (x < to) × (to ≤ long) × (to ≤ x + 512)
-tile_ends l e = (omega arith, omega arith, omega arith)
+-- a tile that starts within the line, at the column `left + x`
+pub tile_within :
+    {A : Type 0} {s : Shape} {y x to : ℕ} (left : ℕ) (line : List A) →
+    y < s.height → x < length line → to ≡ min (x + 512) (length line) → left + length line ≤ s.width →
+    Tiled s y (left + x) (length (take (to - x) (drop x line)))
+tile_within {A} {s} {y} {x} {to} left line row inside e within =
+    let long : length (take (to - x) (drop x line)) ≡ to - x = part_length line x (to - x) (omega arith) in
+    record { row = row; some = omega (arith, long); few = omega (arith, long); within = omega (arith, long) }
 
 -- where a row of a part stands in what is lent for it
 pub row_ends :

@@ -2,14 +2,11 @@
 use Rattle.std.specs.Prelude.{ℕ, Bool, ◌&&◌, List, leb, ℤ, Float}
 use Rattle.plane.specs.Plane.{value_of, good_shape, plane_bytes, agree}
 use Rattle.filter.specs.declared.Making.{Making}
-use Rattle.filter.specs.Filter.{Sampler, made_of, sample_of}
+use Rattle.filter.specs.Filter.{Sampler, sample_of}
 
 -- what is read of the planes before, cur and after, of these bytes
 abbrev pub of_planes : {A : Type 0} → (Sampler → Sampler → Sampler → A) → Making → List ℕ → List ℕ → List ℕ → A
 of_planes read making before cur after = read (value_of before making.before) (value_of cur making.cur) (value_of after making.after)
-
-abbrev pub made_in : Making → List ℕ → List ℕ → List ℕ → ℤ → ℤ → Float
-made_in making = of_planes (made_of making.quality) making
 
 abbrev pub sample_in : Making → List ℕ → List ℕ → List ℕ → ℤ → ℤ → Float
 sample_in making = of_planes (sample_of making.quality making.rows) making

@@ -11,10 +11,10 @@ ghost use Rattle.laws.specs.Refusal.{when_done};
 ghost use Rattle.refusal.specs.Refusal.{no_of, values_of};
 ghost use Rattle.plane.specs.Plane.{value_of};
 ghost use Rattle.plane.specs.Coordinates.{parity_of, unbiased};
-ghost use Rattle.filter.specs.Filter.{mean_of, gap_of, wider_of, beyond_of, bob_of, held_of, in_motion_of, across_of, score_of, slanted_of, better_of, edge_of, near_of, far_of, yadif_of, cubic_of, bwdif_of};
+ghost use Rattle.filter.specs.Filter.{mean_of, gap_of, wider_of, beyond_of, bob_of, held_of, in_motion_of, across_of, score_of, slanted_of, better_of, edge_of, near_of, far_of, yadif_of, cubic_of, bwdif_of, made_of, sample_of};
 ghost use Rattle.filter.specs.Rows.{quality_named, weaves, first_row_or, rows_of, good_rows, field_rows_of};
-ghost use Rattle.filter.specs.Making.{of_planes, made_in, sample_in, planes_good, planes_alike, planes_whole};
-ghost use Rattle.filter.specs.Held.{Room, step, seen};
+ghost use Rattle.filter.specs.Making.{sample_in, planes_good, planes_alike, planes_whole};
+ghost use Rattle.filter.specs.Held.{Room, step, seen, value_in, of_lent};
 ghost use Rattle.filter.specs.Answer.{edge_no, sample_no};
 
 use field::Parity;
@@ -108,15 +108,6 @@ pub fn gap(a: f32, b: f32) -> f32
     float::abs(a - b)
 }
 
-fn bob(cur: &[u8], s: plane::Shape, x: u32, y: u32) -> f32
-    requires { Room y }
-    ensures { result ≡ bob_of (value_of cur.now s) (unbiased x) (unbiased y) }
-{
-    let above = plane::value_at(cur, s, x, y - 1);
-    let below = plane::value_at(cur, s, x, y + 1);
-    float::clamp((above + below) * 0.5, 0.0, 1.0)
-}
-
 // ---- Motion: what the fields before and after tell of a missing row. Where nothing moves, their average
 // is the row. Else the value may lie as far from it as something moved, and in any case far enough to
 // come between the rows above and below.
@@ -155,74 +146,6 @@ pub fn hold(along: f32, average: f32, moved: f32) -> f32
     )
 }
 
-fn in_motion(
-    making: Making,
-    before: &[u8],
-    cur: &[u8],
-    after: &[u8],
-    x: u32,
-    y: u32,
-    along: f32,
-) -> f32
-    requires { Room y }
-    ensures { result ≡ of_planes in_motion_of making before.now cur.now after.now (unbiased x) (unbiased y) along }
-{
-    let up = y - 1;
-    let down = y + 1;
-    let earlier = plane::value_at(before, making.before, x, y);
-    let later = plane::value_at(after, making.after, x, y);
-    let c = plane::value_at(cur, making.cur, x, up);
-    let e = plane::value_at(cur, making.cur, x, down);
-    let average = mean(earlier, later);
-    let change = gap(earlier, later);
-    let above = wider(
-        plane::value_at(before, making.before, x, up),
-        plane::value_at(after, making.after, x, up),
-        c,
-    );
-    let below = wider(
-        plane::value_at(before, making.before, x, down),
-        plane::value_at(after, making.after, x, down),
-        e,
-    );
-    let outside = beyond(average, c, e);
-    let half = float::max(float::max(change, above), below) * 0.5;
-    hold(along, average, float::max(half, outside))
-}
-
-// ---- Edge: a slant j of -2 to 2 is held as j + 2, and so is the k of a score. So the column x + k + j is
-// held as x + k + j - 4, and x + k - j as it stands.
-
-#[derive(Clone, Copy)]
-struct Best {
-    slant: u32,
-    score: f32,
-}
-
-fn across(cur: &[u8], s: plane::Shape, x: u32, y: u32, k: u32, j: u32) -> f32
-    requires { Room x × Room y × (k ≤ 3) × (j ≤ 4) }
-    ensures { result ≡ across_of (value_of cur.now s) (unbiased x) (unbiased y) (step k) (step j) }
-{
-    let above = plane::value_at(cur, s, x + k + j - 4, y - 1);
-    let below = plane::value_at(cur, s, x + k - j, y + 1);
-    gap(above, below)
-}
-
-#[tactic(auto, unfolding(crate::specs::Filter::score_of))]
-fn score(cur: &[u8], s: plane::Shape, x: u32, y: u32, j: u32) -> f32
-    requires { Room x × Room y × (j ≤ 4) }
-    ensures { result ≡ score_of (value_of cur.now s) (unbiased x) (unbiased y) (step j) }
-{
-    across(cur, s, x, y, 1, j) + across(cur, s, x, y, 2, j) + across(cur, s, x, y, 3, j)
-}
-
-fn slanted(cur: &[u8], s: plane::Shape, x: u32, y: u32, j: u32) -> f32
-    requires { Room x × Room y × (j ≤ 4) }
-    ensures { result ≡ slanted_of (value_of cur.now s) (unbiased x) (unbiased y) (step j) }
-{
-    score(cur, s, x, y, j) + SLANT_BIAS * (j.abs_diff(2) as f32)
-}
-
 #[tactic(auto, unfolding(crate::specs::Filter::better_of))]
 fn better(best: Best, slant: u32, score: f32) -> Best
     ensures { seen result ≡ better_of (seen best) (step slant) score }
@@ -234,55 +157,6 @@ fn better(best: Best, slant: u32, score: f32) -> Best
     }
 }
 
-fn tried(best: Best, cur: &[u8], s: plane::Shape, x: u32, y: u32, j: u32) -> Best
-    requires { Room x × Room y × (j ≤ 4) }
-    ensures { seen result ≡ better_of (seen best) (step j) (slanted_of (value_of cur.now s) (unbiased x) (unbiased y) (step j)) }
-{
-    better(best, j, slanted(cur, s, x, y, j))
-}
-
-// Tries 0, -1, 1, -2, 2.
-fn edge_at(cur: &[u8], s: plane::Shape, x: u32, y: u32) -> u32
-    requires { Room x × Room y }
-    ensures { (step result ≡ edge_of (value_of cur.now s) (unbiased x) (unbiased y)) × (result ≤ 4) }
-{
-    let upright = Best {
-        slant: 2,
-        score: score(cur, s, x, y, 2),
-    };
-    let left = tried(upright, cur, s, x, y, 1);
-    let right = tried(left, cur, s, x, y, 3);
-    let far_left = tried(right, cur, s, x, y, 0);
-    let far_right = tried(far_left, cur, s, x, y, 4);
-    far_right.slant
-}
-
-// ---- Yadif and Bwdif, along the edge
-
-fn near(cur: &[u8], s: plane::Shape, x: u32, y: u32, j: u32) -> f32
-    requires { Room x × Room y × (j ≤ 4) }
-    ensures { result ≡ near_of (value_of cur.now s) (unbiased x) (unbiased y) (step j) }
-{
-    plane::value_at(cur, s, x + j - 2, y - 1) + plane::value_at(cur, s, x + 2 - j, y + 1)
-}
-
-fn far(cur: &[u8], s: plane::Shape, x: u32, y: u32, j: u32) -> f32
-    requires { Room x × Room y × (j ≤ 4) }
-    ensures { result ≡ far_of (value_of cur.now s) (unbiased x) (unbiased y) (step j) }
-{
-    plane::value_at(cur, s, x + 3 * j - 6, y - 3) + plane::value_at(cur, s, x + 6 - 3 * j, y + 3)
-}
-
-#[tactic(auto, unfolding(crate::specs::Filter::yadif_of))]
-fn yadif(making: Making, before: &[u8], cur: &[u8], after: &[u8], x: u32, y: u32) -> f32
-    requires { Room x × Room y }
-    ensures { result ≡ of_planes yadif_of making before.now cur.now after.now (unbiased x) (unbiased y) }
-{
-    let j = edge_at(cur, making.cur, x, y);
-    let along = near(cur, making.cur, x, y, j) * 0.5;
-    in_motion(making, before, cur, after, x, y, along)
-}
-
 #[tactic(auto, unfolding(crate::specs::Filter::cubic_of))]
 pub fn cubic(near: f32, far: f32) -> f32
     ensures { result ≡ cubic_of near far }
@@ -290,57 +164,184 @@ pub fn cubic(near: f32, far: f32) -> f32
     (9.0 * near - far) / 16.0
 }
 
-#[tactic(auto, unfolding(crate::specs::Filter::bwdif_of))]
-fn bwdif(making: Making, before: &[u8], cur: &[u8], after: &[u8], x: u32, y: u32) -> f32
-    requires { Room x × Room y }
-    ensures { result ≡ of_planes bwdif_of making before.now cur.now after.now (unbiased x) (unbiased y) }
-{
-    let j = edge_at(cur, making.cur, x, y);
-    let along = cubic(
-        near(cur, making.cur, x, y, j),
-        far(cur, making.cur, x, y, j),
-    );
-    in_motion(making, before, cur, after, x, y, along)
+// ---- A plane as it is lent: its bytes beside its shape.
+
+#[derive(Clone, Copy)]
+struct Lent<'a> {
+    bytes: &'a [u8],
+    shape: plane::Shape,
 }
 
-// ---- a sample
+// A slant j of -2 to 2 is held as j + 2, and so is the k of a score. So the column x + k + j is held as
+// x + k + j - 4, and x + k - j as it stands.
 
-#[tactic(auto, unfolding(crate::specs::Filter::made_of))]
-fn made(making: Making, before: &[u8], cur: &[u8], after: &[u8], x: u32, y: u32) -> f32
-    requires { Room x × Room y }
-    ensures { result ≡ made_in making before.now cur.now after.now (unbiased x) (unbiased y) }
-{
-    match making.quality {
-        Quality::Weave => plane::value_at(cur, making.cur, x, y),
-        Quality::Bob => bob(cur, making.cur, x, y),
-        Quality::Yadif => yadif(making, before, cur, after, x, y),
-        Quality::Bwdif => bwdif(making, before, cur, after, x, y),
+#[derive(Clone, Copy)]
+struct Best {
+    slant: u32,
+    score: f32,
+}
+
+impl Lent<'_> {
+    // The value at held coordinates.
+    fn at(self, x: u32, y: u32) -> f32
+        ensures { result ≡ value_in self.entry (unbiased x) (unbiased y) }
+    {
+        plane::value_at(self.bytes, self.shape, x, y)
+    }
+
+    #[tactic(auto, unfolding(crate::specs::Filter::bob_of), using(crate::proofs::Offsets::unbiased_less, crate::proofs::Offsets::unbiased_more))]
+    fn bob(self, x: u32, y: u32) -> f32
+        requires { Room y }
+        ensures { result ≡ bob_of (value_in self.entry) (unbiased x) (unbiased y) }
+    {
+        let above = self.at(x, y - 1);
+        let below = self.at(x, y + 1);
+        float::clamp((above + below) * 0.5, 0.0, 1.0)
+    }
+
+    #[tactic(auto, unfolding(crate::specs::Filter::across_of), using(crate::proofs::Offsets::across_above, crate::proofs::Offsets::across_below, crate::proofs::Offsets::unbiased_less, crate::proofs::Offsets::unbiased_more))]
+    fn across(self, x: u32, y: u32, k: u32, j: u32) -> f32
+        requires { Room x × Room y × (k ≤ 3) × (j ≤ 4) }
+        ensures { result ≡ across_of (value_in self.entry) (unbiased x) (unbiased y) (step k) (step j) }
+    {
+        let above = self.at(x + k + j - 4, y - 1);
+        let below = self.at(x + k - j, y + 1);
+        gap(above, below)
+    }
+
+    #[tactic(auto, unfolding(crate::specs::Filter::score_of))]
+    fn score(self, x: u32, y: u32, j: u32) -> f32
+        requires { Room x × Room y × (j ≤ 4) }
+        ensures { result ≡ score_of (value_in self.entry) (unbiased x) (unbiased y) (step j) }
+    {
+        self.across(x, y, 1, j) + self.across(x, y, 2, j) + self.across(x, y, 3, j)
+    }
+
+    fn slanted(self, x: u32, y: u32, j: u32) -> f32
+        requires { Room x × Room y × (j ≤ 4) }
+        ensures { result ≡ slanted_of (value_in self.entry) (unbiased x) (unbiased y) (step j) }
+    {
+        self.score(x, y, j) + SLANT_BIAS * (j.abs_diff(2) as f32)
+    }
+
+    fn tried(self, best: Best, x: u32, y: u32, j: u32) -> Best
+        requires { Room x × Room y × (j ≤ 4) }
+        ensures { seen result ≡ better_of (seen best) (step j) (slanted_of (value_in self.entry) (unbiased x) (unbiased y) (step j)) }
+    {
+        better(best, j, self.slanted(x, y, j))
+    }
+
+    // Tries 0, -1, 1, -2, 2.
+    fn edge_at(self, x: u32, y: u32) -> u32
+        requires { Room x × Room y }
+        ensures { (step result ≡ edge_of (value_in self.entry) (unbiased x) (unbiased y)) × (result ≤ 4) }
+    {
+        let upright = Best {
+            slant: 2,
+            score: self.score(x, y, 2),
+        };
+        let left = self.tried(upright, x, y, 1);
+        let right = self.tried(left, x, y, 3);
+        let far_left = self.tried(right, x, y, 0);
+        let far_right = self.tried(far_left, x, y, 4);
+        far_right.slant
+    }
+
+    #[tactic(auto, unfolding(crate::specs::Filter::near_of), using(crate::proofs::Offsets::near_above, crate::proofs::Offsets::near_below, crate::proofs::Offsets::unbiased_less, crate::proofs::Offsets::unbiased_more))]
+    fn near(self, x: u32, y: u32, j: u32) -> f32
+        requires { Room x × Room y × (j ≤ 4) }
+        ensures { result ≡ near_of (value_in self.entry) (unbiased x) (unbiased y) (step j) }
+    {
+        self.at(x + j - 2, y - 1) + self.at(x + 2 - j, y + 1)
+    }
+
+    #[tactic(auto, unfolding(crate::specs::Filter::far_of), using(crate::proofs::Offsets::far_above, crate::proofs::Offsets::far_below, crate::proofs::Offsets::unbiased_less, crate::proofs::Offsets::unbiased_more))]
+    fn far(self, x: u32, y: u32, j: u32) -> f32
+        requires { Room x × Room y × (j ≤ 4) }
+        ensures { result ≡ far_of (value_in self.entry) (unbiased x) (unbiased y) (step j) }
+    {
+        self.at(x + 3 * j - 6, y - 3) + self.at(x + 6 - 3 * j, y + 3)
     }
 }
 
-// Of coordinates that are held, and the parity of their row.
-fn sample_at(
-    making: Making,
-    before: &[u8],
-    cur: &[u8],
-    after: &[u8],
-    parity: u32,
-    x: u32,
-    y: u32,
-) -> f32
-    requires { Room x × Room y × (parity ≡ parity_of (unbiased y)) }
-    ensures { result ≡ sample_in making before.now cur.now after.now (unbiased x) (unbiased y) }
-{
-    if making.quality.is_weave() {
-        if parity == making.rows.mate {
-            return plane::value_at(before, making.before, x, y);
+// ---- The three planes that a sample is made from.
+
+#[derive(Clone, Copy)]
+struct Planes<'a> {
+    before: Lent<'a>,
+    cur: Lent<'a>,
+    after: Lent<'a>,
+}
+
+impl Planes<'_> {
+    fn in_motion(self, x: u32, y: u32, along: f32) -> f32
+        requires { Room y }
+        ensures { result ≡ of_lent in_motion_of self.entry (unbiased x) (unbiased y) along }
+    {
+        let up = y - 1;
+        let down = y + 1;
+        let earlier = self.before.at(x, y);
+        let later = self.after.at(x, y);
+        let c = self.cur.at(x, up);
+        let e = self.cur.at(x, down);
+        let average = mean(earlier, later);
+        let change = gap(earlier, later);
+        let above = wider(self.before.at(x, up), self.after.at(x, up), c);
+        let below = wider(self.before.at(x, down), self.after.at(x, down), e);
+        let outside = beyond(average, c, e);
+        let half = float::max(float::max(change, above), below) * 0.5;
+        hold(along, average, float::max(half, outside))
+    }
+
+    // Yadif and Bwdif, along the edge.
+    #[tactic(auto, unfolding(crate::specs::Filter::yadif_of))]
+    fn yadif(self, x: u32, y: u32) -> f32
+        requires { Room x × Room y }
+        ensures { result ≡ of_lent yadif_of self.entry (unbiased x) (unbiased y) }
+    {
+        let j = self.cur.edge_at(x, y);
+        self.in_motion(x, y, self.cur.near(x, y, j) * 0.5)
+    }
+
+    #[tactic(auto, unfolding(crate::specs::Filter::bwdif_of))]
+    fn bwdif(self, x: u32, y: u32) -> f32
+        requires { Room x × Room y }
+        ensures { result ≡ of_lent bwdif_of self.entry (unbiased x) (unbiased y) }
+    {
+        let j = self.cur.edge_at(x, y);
+        let along = cubic(self.cur.near(x, y, j), self.cur.far(x, y, j));
+        self.in_motion(x, y, along)
+    }
+
+    #[tactic(auto, unfolding(crate::specs::Filter::made_of))]
+    fn made(self, quality: Quality, x: u32, y: u32) -> f32
+        requires { Room x × Room y }
+        ensures { result ≡ of_lent (made_of quality) self.entry (unbiased x) (unbiased y) }
+    {
+        match quality {
+            Quality::Weave => self.cur.at(x, y),
+            Quality::Bob => self.cur.bob(x, y),
+            Quality::Yadif => self.yadif(x, y),
+            Quality::Bwdif => self.bwdif(x, y),
         }
-        return plane::value_at(cur, making.cur, x, y);
     }
-    if parity == making.rows.first {
-        return plane::value_at(cur, making.cur, x, y);
+
+    // Of coordinates that are held, and the parity of their row.
+    fn sample_at(self, quality: Quality, rows: Rows, parity: u32, x: u32, y: u32) -> f32
+        requires { Room x × Room y × (parity ≡ parity_of (unbiased y)) }
+        ensures { result ≡ of_lent (sample_of quality rows) self.entry (unbiased x) (unbiased y) }
+    {
+        if quality.is_weave() {
+            if parity == rows.mate {
+                return self.before.at(x, y);
+            }
+            return self.cur.at(x, y);
+        }
+        if parity == rows.first {
+            return self.cur.at(x, y);
+        }
+        self.made(quality, x, y)
     }
-    made(making, before, cur, after, x, y)
 }
 
 // ---- the two calls
@@ -411,7 +412,8 @@ pub fn edge(cur: &[u8], shape: plane::Shape, x: i32, y: i32) -> Result<i32, Refu
     ensures { (no_of result ≡ edge_no shape (length cur.now) x y) × (values_of result ≡ when_done (edge_no shape (length cur.now) x y) (edge_of (value_of cur.now shape) x y)) }
 {
     readable(shape, cur.len(), x, y)?;
-    let slant = edge_at(cur, shape, plane::biased(x), plane::biased(y));
+    let lent = Lent { bytes: cur, shape };
+    let slant = lent.edge_at(plane::biased(x), plane::biased(y));
     Ok(slant as i32 - 2)
 }
 
@@ -428,11 +430,23 @@ pub fn sample(
     ensures result_value_2 { values_of result ≡ when_done (no_of result) (sample_in making before.now cur.now after.now x y) }
 {
     judge(making, before.len(), cur.len(), after.len(), x, y)?;
-    Ok(sample_at(
-        making,
-        before,
-        cur,
-        after,
+    let planes = Planes {
+        before: Lent {
+            bytes: before,
+            shape: making.before,
+        },
+        cur: Lent {
+            bytes: cur,
+            shape: making.cur,
+        },
+        after: Lent {
+            bytes: after,
+            shape: making.after,
+        },
+    };
+    Ok(planes.sample_at(
+        making.quality,
+        making.rows,
         plane::row_parity(y),
         plane::biased(x),
         plane::biased(y),
