@@ -48,6 +48,7 @@ fn making_named(
     }
 }
 
+// The codes are numbers up to here, since C has no others to give.
 fn all_named(quality: u8, before: PlaneNumbers, cur: PlaneNumbers, after: PlaneNumbers) -> bool
     ensures { result ≡ all_named quality before cur after }
 {
