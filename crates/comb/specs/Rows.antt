@@ -1,6 +1,5 @@
 -- How the private functions read a row: which bytes a column's code is made of. No public contract cites this file.
 use Rattle.std.specs.Prelude.{ℕ, ◌+◌, ◌*◌, ◌≤◌, min, ◌≡◌, cond, List, leb, ltb, length, get_or, drop}
-use Rattle.laws.specs.Rows.{listed}
 use Rattle.laws.specs.Sums.{apart}
 use Rattle.plane.specs.Plane.{full_code}
 use Rattle.comb.specs.declared.Kind.{Kind}
@@ -45,10 +44,6 @@ pub record Rows (kind : Kind) (width : ℕ) (up here down : List ℕ) : Type 0 w
   pub below : length down ≡ width * size_of kind
   pub narrow : width ≤ 8192
   pub low : low_in kind
-
--- to each column its own number added
-abbrev pub each_plus : List ℕ → (ℕ → ℕ) → List ℕ
-each_plus columns f = listed (length columns) (λ x. get_or columns x 0 + f x)
 
 -- no column is above `most`
 abbrev pub AllUpTo : ℕ → List ℕ → Type 0

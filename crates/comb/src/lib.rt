@@ -6,13 +6,13 @@
 // Comb: how far each row stands out from the two beside it, summed over a picture.
 #![tactic(auto)]
 
-ghost use Rattle.std.specs.Prelude.{◌≡◌, ◌+◌, ◌*◌, ◌-◌, ◌<◌, ◌≤◌, ◌^◌, min, length, get_or, take, drop};
-ghost use Rattle.laws.specs.Refusal.{lowest, when_done};
+ghost use Rattle.std.specs.Prelude.{◌≡◌, ◌+◌, ◌*◌, ◌-◌, ◌<◌, ◌≤◌, ◌^◌, length, get_or, take, drop};
+ghost use Rattle.laws.specs.Refusal.{when_done};
 ghost use Rattle.laws.specs.Sums.{sum_over, apart};
 ghost use Rattle.refusal.specs.Refusal.{no_of, values_of};
 ghost use Rattle.comb.specs.Comb.{comb_of, plane_comb, rgba_comb};
 ghost use Rattle.comb.specs.Answer.{comb_no, rgba_no};
-ghost use Rattle.comb.specs.Rows.{kind_of, size_of, code_in, bend_in, codes_of, low_in, Rows, each_plus, AllUpTo};
+ghost use Rattle.comb.specs.Rows.{kind_of, size_of, code_in, bend_in, codes_of, low_in, Rows, AllUpTo};
 ghost use Rattle.comb.specs.declared.Kind.{Kind};
 ghost use Rattle.comb.specs.declared.Kind.TheVariants.{Byte, Pair, Cut, Green};
 
@@ -147,7 +147,7 @@ fn sum_of(columns: &[u16; 256]) -> u32
     left + right
 }
 
-// The row of n bytes that starts at a place of the plane.
+// The row of n bytes that starts at a place of the plane. No plainer as a range: each end is a sum of three.
 fn row_at(plane: &[u8], start: usize, n: usize) -> &[u8]
     requires { start + n ≤ length plane.now }
     ensures { result.now ≡ take n (drop start plane.now) }
@@ -252,7 +252,8 @@ impl Tally {
         }
     }
 
-    // The bends of a row, added to those before it. Only those of cut codes go by way of the columns.
+    // The bends of a row, added to those before it. Only those of cut codes go by way of the columns. The kind is
+    // asked once a row.
     fn add_row(&mut self, kind: Kind, rows: Three, width: usize)
         requires { Rows kind width rows.up.now rows.here.now rows.down.now × (in_all self.old < 2 ^ 62) }
         ensures { Grown self.old self.new (sum_over width (bend_in kind rows.entry.up.now rows.entry.here.now rows.entry.down.now)) }

@@ -1,9 +1,12 @@
 // Colour by number.
 ghost use Rattle.std.specs.Prelude.{◌≡◌};
-ghost use Rattle.laws.specs.Refusal.{written};
+ghost use Rattle.laws.specs.Refusal.{when_done, written};
+ghost use Rattle.refusal.specs.Refusal.{no_of, values_of};
 ghost use Rattle.colour.specs.Colour.{converted_of, quantise_of, luma_weights};
 ghost use Rattle.colour.specs.Answer.{to_rgb_no};
 ghost use Rattle.desk.specs.Colours.{primaries_named, luma_no};
+
+use refusal::Refusal;
 
 // Y'CbCr to red, green and blue. Number 8.
 #[unsafe(no_mangle)]
@@ -22,13 +25,13 @@ pub extern "C" fn desk_to_rgb(
     ensures blue_after { blue.new ≡ written (to_rgb_no conversion y cb cr) (converted_of conversion y cb cr).blue blue.old }
 {
     match colour::to_rgb(conversion, y, cb, cr) {
-        colour::Coloured::Value(found) => {
+        Ok(found) => {
             *red = found.red;
             *green = found.green;
             *blue = found.blue;
             0
         }
-        colour::Coloured::Refused(no) => no,
+        Err(refusal) => refusal.number(),
     }
 }
 
@@ -48,22 +51,24 @@ pub extern "C" fn desk_luma(primaries: u8, red: &mut f32, green: &mut f32, blue:
     ensures green_after { green.new ≡ written (luma_no primaries) (luma_weights (primaries_named primaries)).green green.old }
     ensures blue_after { blue.new ≡ written (luma_no primaries) (luma_weights (primaries_named primaries)).blue blue.old }
 {
-    if 1 < primaries {
-        return refusal::OUTSIDE;
+    match primaries_named(primaries) {
+        Ok(named) => {
+            let weights = named.luma();
+            *red = weights.red;
+            *green = weights.green;
+            *blue = weights.blue;
+            0
+        }
+        Err(refusal) => refusal.number(),
     }
-    let found = primaries_named(primaries).luma();
-    *red = found.red;
-    *green = found.green;
-    *blue = found.blue;
-    0
 }
 
-fn primaries_named(code: u8) -> colour::Primaries
-    ensures { result ≡ primaries_named code }
+fn primaries_named(code: u8) -> Result<colour::Primaries, Refusal>
+    ensures { (no_of result ≡ luma_no code) × (values_of result ≡ when_done (luma_no code) (primaries_named code)) }
 {
-    if code == 0 {
-        colour::Primaries::Bt709
-    } else {
-        colour::Primaries::Bt2020
+    match code {
+        0 => Ok(colour::Primaries::Bt709),
+        1 => Ok(colour::Primaries::Bt2020),
+        _ => Err(Refusal::Outside),
     }
 }

@@ -23,11 +23,11 @@ pub extern "C" fn desk_comb(
     let rows = numbers::at_most_65535(height);
     let bits = numbers::at_most_255(depth);
     match comb::comb(plane, columns, rows, bits, stride) {
-        comb::Combed::Value(found) => {
+        Ok(found) => {
             *total = found;
             0
         }
-        comb::Combed::Refused(no) => no,
+        Err(refusal) => refusal.number(),
     }
 }
 
@@ -40,10 +40,10 @@ pub extern "C" fn desk_comb_rgba(rgba: &[u8], width: u32, height: u32, total: &m
     let columns = numbers::at_most_65535(width);
     let rows = numbers::at_most_65535(height);
     match comb::comb_rgba(rgba, columns, rows) {
-        comb::Combed::Value(green) => {
+        Ok(green) => {
             *total = green;
             0
         }
-        comb::Combed::Refused(no) => no,
+        Err(refusal) => refusal.number(),
     }
 }

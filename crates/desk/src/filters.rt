@@ -5,10 +5,11 @@ ghost use Rattle.laws.specs.Rows.{over};
 ghost use Rattle.plane.specs.Plane.{value_of};
 ghost use Rattle.filter.specs.Filter.{edge_of};
 ghost use Rattle.numbers.specs.Numbers.{shape_named};
-ghost use Rattle.desk.specs.Filters.{rows_named, making_named, edge_no, sample_no, sample_named, plane_no, plane_named};
+ghost use Rattle.desk.specs.Filters.{rows_named, making_named, all_named, edge_no, sample_no, sample_named, plane_no, plane_named};
 ghost use Rattle.desk.specs.Inner.{cut_planes};
 
 use numbers::PlaneNumbers;
+use refusal::Refusal;
 
 // How the edge runs at a place of a missing row, from -2 to 2. Numbers 3, 4 and 6.
 #[unsafe(no_mangle)]
@@ -17,14 +18,14 @@ pub extern "C" fn desk_edge(cur: &[u8], shape: PlaneNumbers, x: i32, y: i32, sla
     ensures slant_after { slant.new ≡ written (edge_no shape (length cur.now) x y) (edge_of (value_of cur.now (shape_named shape)) x y) slant.old }
 {
     if 3 < shape.layout {
-        return refusal::OUTSIDE;
+        return Refusal::Outside.number();
     }
     match filter::edge(cur, numbers::shape_named(shape), x, y) {
-        filter::Edged::Slant(found) => {
+        Ok(found) => {
             *slant = found;
             0
         }
-        filter::Edged::Refused(no) => no,
+        Err(refusal) => refusal.number(),
     }
 }
 
@@ -40,11 +41,18 @@ fn making_named(
 {
     filter::Making {
         quality: filter::Quality::named(quality),
-        rows: rows,
+        rows,
         before: numbers::shape_named(before),
         cur: numbers::shape_named(cur),
         after: numbers::shape_named(after),
     }
+}
+
+// The codes are numbers up to here, since C has no others to give.
+fn all_named(quality: u8, before: PlaneNumbers, cur: PlaneNumbers, after: PlaneNumbers) -> bool
+    ensures { result ≡ all_named quality before cur after }
+{
+    (quality <= 3) & (before.layout <= 3) & (cur.layout <= 3) & (after.layout <= 3)
 }
 
 // The value at a place, by the quality's code: 0 Weave, 1 Bob, 2 Yadif, 3 Bwdif. `first` is 0 or 1 and
@@ -67,24 +75,17 @@ pub extern "C" fn desk_sample(
     ensures value { result ≡ sample_no quality (rows_named first mate) before_shape cur_shape after_shape (length before.now) (length cur.now) (length after.now) x y }
     ensures value_after { value.new ≡ written result (sample_named quality (rows_named first mate) before_shape cur_shape after_shape before cur after x y) value.old }
 {
-    let named = (quality <= 3)
-        & (before_shape.layout <= 3)
-        & (cur_shape.layout <= 3)
-        & (after_shape.layout <= 3);
-    if !named {
-        return refusal::OUTSIDE;
+    if !all_named(quality, before_shape, cur_shape, after_shape) {
+        return Refusal::Outside.number();
     }
-    let rows = filter::Rows {
-        first: first,
-        mate: mate,
-    };
+    let rows = filter::Rows { first, mate };
     let making = making_named(quality, rows, before_shape, cur_shape, after_shape);
     match filter::sample(making, before, cur, after, x, y) {
-        plane::Sampled::Value(found) => {
+        Ok(found) => {
             *value = found;
             0
         }
-        plane::Sampled::Refused(no) => no,
+        Err(refusal) => refusal.number(),
     }
 }
 
@@ -104,15 +105,11 @@ pub extern "C" fn desk_plane(
     ensures value { result ≡ plane_no quality first before_shape cur_shape after_shape (length before.now) (length cur.now) (length after.now) (length out.old) }
     ensures out_after { out.new ≡ written result (over (plane_named quality first before_shape cur_shape after_shape before cur after) out.old) out.old }
 {
-    let named = (quality <= 3)
-        & (before_shape.layout <= 3)
-        & (cur_shape.layout <= 3)
-        & (after_shape.layout <= 3)
-        & (first <= 1);
+    let named = all_named(quality, before_shape, cur_shape, after_shape) & (first <= 1);
     if !named {
-        return refusal::OUTSIDE;
+        return Refusal::Outside.number();
     }
-    let rows = filter::Rows::field(first as u32);
+    let rows = filter::Rows::field(u32::from(first));
     let making = making_named(quality, rows, before_shape, cur_shape, after_shape);
-    fill::plane(out, making, before, cur, after)
+    refusal::number(fill::plane(out, making, before, cur, after))
 }

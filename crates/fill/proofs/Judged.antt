@@ -35,7 +35,7 @@ module _ (making : Making) (place : Place) (before cur after room : ℕ) where
 
   pub judged :
       part_no making place before cur after room ≡ 0 →
-      AllLent making before cur after
+      AllLent making.before making.cur making.after before cur after
       × (((place.top + place.height ≤ making.cur.height) × (place.left + place.width ≤ making.cur.width)) × (place.height * place.width ≤ room))
   judged done =
       let all = passed done in

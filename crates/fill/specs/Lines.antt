@@ -1,17 +1,17 @@
 -- What the inner functions of `fill` promise: planes that were tested, and a tile of a line.
-use Rattle.std.specs.Prelude.{ℕ, ◌+◌, ◌/◌, ◌^◌, ◌≤◌, ◌<◌, min, ◌≡◌, Bool, not, cond, List, ℤ, pos, Float}
+use Rattle.std.specs.Prelude.{ℕ, ◌+◌, ◌/◌, ◌^◌, ◌≤◌, ◌<◌, min, ◌≡◌, Bool, not, cond, List, ℤ, pos, length, Float}
 use Rattle.std.specs.Float.{binary32}
 use Rattle.std.specs.Float.Ieee.{div, lt, of_int}
 use Rattle.laws.specs.Rows.{listed}
 use Rattle.plane.specs.declared.Shape.{Shape}
 use Rattle.plane.specs.Plane.{plane_bytes, stored_at, value_of}
-use Rattle.filter.specs.declared.Making.{Making}
 use Rattle.filter.specs.declared.Quality.{Quality}
 use Rattle.filter.specs.declared.Quality.TheVariants.{Weave, Bob, Yadif, Bwdif}
 use Rattle.filter.specs.Filter.{Sampler, Slant, one, slanted_of, better_of, best_of, sample_of}
 use Rattle.filter.specs.Held.{step}
-use Rattle.filter.specs.Making.{of_planes}
 use Rattle.fill.specs.declared.Pick.{Pick}
+use Rattle.fill.specs.declared.Source.{Source}
+use Rattle.fill.specs.declared.Request.{Request}
 use Rattle.fill.specs.Rows.{Around, Motion, picked}
 
 -- ---- what was tested before a row is read
@@ -23,14 +23,22 @@ pub record Lent (s : Shape) (bytes : ℕ) : Type 0 where
   pub whole : plane_bytes s ≤ bytes
 
 -- three such planes of one width and height
-pub record AllLent (making : Making) (before cur after : ℕ) : Type 0 where
-  pub before_lent : Lent making.before before
-  pub cur_lent : Lent making.cur cur
-  pub after_lent : Lent making.after after
-  pub before_width : making.cur.width ≡ making.before.width
-  pub before_height : making.cur.height ≡ making.before.height
-  pub after_width : making.cur.width ≡ making.after.width
-  pub after_height : making.cur.height ≡ making.after.height
+pub record AllLent (before cur after : Shape) (before-bytes cur-bytes after-bytes : ℕ) : Type 0 where
+  pub before_lent : Lent before before-bytes
+  pub cur_lent : Lent cur cur-bytes
+  pub after_lent : Lent after after-bytes
+  pub before_width : cur.width ≡ before.width
+  pub before_height : cur.height ≡ before.height
+  pub after_width : cur.width ≡ after.width
+  pub after_height : cur.height ≡ after.height
+
+-- of a plane beside its shape, and of three
+abbrev pub Whole : Source → Type 0
+Whole source = Lent source.shape (length source.bytes.now)
+
+abbrev pub AllWhole : Request → Type 0
+AllWhole r =
+    AllLent r.before.shape r.cur.shape r.after.shape (length r.before.bytes.now) (length r.cur.bytes.now) (length r.after.bytes.now)
 
 -- a tile of row y: some columns, at most 512
 pub record Tiled (s : Shape) (y from count : ℕ) : Type 0 where
@@ -65,16 +73,25 @@ Picks rows far x r =
 
 -- ---- of lent planes
 
-abbrev pub Moving : List Float → Making → List ℕ → List ℕ → List ℕ → ℕ → ℕ → ℕ → Type 0
-Moving rows making before cur after from count y =
-    Motion rows from count (pos y) (value_of before making.before) (value_of cur making.cur) (value_of after making.after)
+abbrev pub value_in : Source → Sampler
+value_in source = value_of source.bytes.now source.shape
+
+abbrev pub of_request : {A : Type 0} → (Sampler → Sampler → Sampler → A) → Request → A
+of_request read r = read (value_in r.before) (value_in r.cur) (value_in r.after)
+
+abbrev pub Moving : List Float → Request → ℕ → ℕ → ℕ → Type 0
+Moving rows r from count y = Motion rows from count (pos y) (value_in r.before) (value_in r.cur) (value_in r.after)
 
 -- `count` columns of row y, from the column `from` on
-abbrev pub tile_of : (Sampler → Sampler → Sampler → Sampler) → Making → List ℕ → List ℕ → List ℕ → ℕ → ℕ → ℕ → List Float
-tile_of made making before cur after from count y = listed count (λ x. of_planes made making before cur after (pos (from + x)) (pos y))
+abbrev pub tile_of : (Sampler → Sampler → Sampler → Sampler) → Request → ℕ → ℕ → ℕ → List Float
+tile_of made r from count y = listed count (λ x. of_request made r (pos (from + x)) (pos y))
 
-abbrev pub sample_tile : Making → List ℕ → List ℕ → List ℕ → ℕ → ℕ → ℕ → List Float
-sample_tile making = tile_of (sample_of making.quality making.rows) making
+-- each sample, and so many of one row
+abbrev pub sample_for : Request → Sampler
+sample_for r = of_request (sample_of r.quality r.shown) r
+
+abbrev pub sample_tile : Request → ℕ → ℕ → ℕ → List Float
+sample_tile r from count y = listed count (λ x. sample_for r (pos (from + x)) (pos y))
 
 -- whether a row is shown as cur has it: by whether its parity is that of `mate`, and that of `first`
 abbrev pub kept_of : Quality → Bool → Bool → Bool

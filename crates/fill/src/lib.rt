@@ -20,9 +20,9 @@ ghost use Rattle.plane.specs.Plane.{sample_bytes, stored_at, value_of};
 ghost use Rattle.plane.specs.Coordinates.{held};
 ghost use Rattle.filter.specs.Filter.{Sampler, one, bob_of, in_motion_of, score_of, near_of, yadif_of, bwdif_of};
 ghost use Rattle.filter.specs.Held.{step};
-ghost use Rattle.fill.specs.Fill.{part_no, part_made, plane_no, plane_made};
+ghost use Rattle.fill.specs.Fill.{part_of, part_no, part_made, plane_no, plane_made};
 ghost use Rattle.fill.specs.Rows.{RowOf, Around, Trio, Motion, Under, along_of};
-ghost use Rattle.fill.specs.Lines.{Lent, AllLent, Tiled, stored_value, better_in, Tries, Picks, kept_of, Moving, tile_of, sample_tile};
+ghost use Rattle.fill.specs.Lines.{Whole, AllWhole, Tiled, value_in, stored_value, better_in, Tries, Picks, kept_of, Moving, tile_of, sample_tile};
 
 use filter::Quality;
 use refusal::Refusal;
@@ -102,101 +102,6 @@ fn start(row: usize, stride: u32) -> usize
     row * (stride as usize)
 }
 
-// The samples of a row from a column on, by the number of bytes that one has and of components that
-// share the plane.
-fn samples(dst: &mut [f32], src: &[u8], s: plane::Shape, row: usize, from: usize)
-    requires lent { Lent s (length src.now) }
-    requires row_lt_height { (row < s.height) × (from + length dst.old ≤ s.width) }
-    ensures { dst.new ≡ listed (length dst.old) (λ x. value_of src.now s (pos (from + x)) (pos row)) }
-{
-    let at = start(row, s.stride);
-    let component = s.layout.component();
-    let shared = s.layout.components();
-    if s.depth <= 8 {
-        if shared <= 1 {
-            scan(dst, src, at + component, 1, from, 8, 0, 255);
-            return;
-        }
-        scan(dst, src, at + component, 2, from, 8, 0, 255);
-        return;
-    }
-    let shift = s.layout.shift(s.depth);
-    let full = plane::full_code(s.depth);
-    if shared <= 1 {
-        scan(dst, src, at + 2 * component, 2, from, 16, shift, full);
-        return;
-    }
-    scan(dst, src, at + 2 * component, 4, from, 16, shift, full);
-}
-
-// ---- rows of a tile, expanded
-
-// The columns of a row that a tile needs, into the places from `start` on. The samples within the plane
-// are read, and those past an edge repeat the last within. A sampler holds a coordinate that lies outside
-// the plane, so one row of the plane stands for several rows of the sampler.
-fn expand(
-    rows: &mut [f32],
-    start: usize,
-    src: &[u8],
-    s: plane::Shape,
-    row: usize,
-    from: usize,
-    count: usize,
-)
-    requires lent { Lent s (length src.now) }
-    requires tiled { Tiled s row from count × (length rows.old ≡ 5240) × (start ≤ 4716) }
-    ensures row_of { (y : ℤ) → held s.height y ≡ row → RowOf rows.new start from count y (value_of src.now s) }
-    ensures under { Under rows.new rows.old start }
-{
-    let end = start + (count + 12);
-    let first = start + 6usize.saturating_sub(from);
-    let last = end - (from + count + 6).saturating_sub(usize::from(s.width));
-    samples(&mut rows[first..last], src, s, row, from.saturating_sub(6));
-    let leftmost = rows[first];
-    let rightmost = rows[last - 1];
-    rows[start..first].fill(leftmost);
-    rows[last..end].fill(rightmost);
-}
-
-// The rows k above and below. A row above the first is the first, and one below the last is the last.
-fn around(
-    rows: &mut [f32],
-    start: usize,
-    src: &[u8],
-    s: plane::Shape,
-    y: usize,
-    k: usize,
-    from: usize,
-    count: usize,
-)
-    requires lent { Lent s (length src.now) }
-    requires tiled { Tiled s y from count × (length rows.old ≡ 5240) × (start ≤ 4192) × (k ≤ 3) }
-    ensures around { Around rows.new start from count (pos y) (pos k) (value_of src.now s) }
-    ensures under { Under rows.new rows.old start }
-{
-    let last = usize::from(s.height) - 1;
-    expand(rows, start, src, s, y.saturating_sub(k), from, count);
-    expand(rows, start + 524, src, s, (y + k).min(last), from, count);
-}
-
-fn trio(
-    rows: &mut [f32],
-    start: usize,
-    src: &[u8],
-    s: plane::Shape,
-    y: usize,
-    from: usize,
-    count: usize,
-)
-    requires lent { Lent s (length src.now) }
-    requires tiled { Tiled s y from count × (length rows.old ≡ 5240) × (start ≤ 3668) }
-    ensures trio { Trio rows.new start from count (pos y) (value_of src.now s) }
-    ensures under { Under rows.new rows.old start }
-{
-    around(rows, start, src, s, y, 1, from, count);
-    expand(rows, start + 1048, src, s, y, from, count);
-}
-
 // The rows stand one behind the other, each in 524 places. Of cur, the row above,
 const ABOVE: usize = 0;
 // and the row below.
@@ -215,27 +120,6 @@ const LATER_DOWN: usize = 3144;
 const LATER: usize = 3668;
 // Of cur, the row three above, and behind it the row three below.
 const FAR_ABOVE: usize = 4192;
-
-// What Motion looks at, of all three planes.
-fn motion(
-    rows: &mut [f32],
-    making: filter::Making,
-    before: &[u8],
-    cur: &[u8],
-    after: &[u8],
-    y: usize,
-    from: usize,
-    count: usize,
-)
-    requires all_lent { AllLent making (length before.now) (length cur.now) (length after.now) }
-    requires tiled { Tiled making.cur y from count × (length rows.old ≡ 5240) }
-    ensures moving { Moving rows.new making before.now cur.now after.now from count y }
-    ensures rows_len { length rows.new ≡ 5240 }
-{
-    around(rows, ABOVE, cur, making.cur, y, 1, from, count);
-    trio(rows, EARLIER_UP, before, making.before, y, from, count);
-    trio(rows, LATER_UP, after, making.after, y, from, count);
-}
 
 // ---- a sample, from expanded rows. Place `start + x + n` of a row holds the column that is n - 6 to the
 // right of the tile's column x.
@@ -334,62 +218,112 @@ fn in_motion(rows: &[f32], x: usize, along: f32) -> f32
     filter::hold(along, average, float::max(half, outside))
 }
 
-// ---- a tile of a line
+// ---- a plane of the source
 
-fn bob(out: &mut [f32], rows: &mut [f32], src: &[u8], s: plane::Shape, y: usize, from: usize)
-    requires lent { Lent s (length src.now) }
-    requires tiled { Tiled s y from (length out.old) × (length rows.old ≡ 5240) }
-    ensures out_after { out.new ≡ listed (length out.old) (λ x. bob_of (value_of src.now s) (pos (from + x)) (pos y)) }
-    ensures rows_len { length rows.new ≡ 5240 }
-{
-    around(rows, ABOVE, src, s, y, 1, from, out.len());
-    for x in 0..out.len() {
-        out[x] = float::clamp(near(rows, x, 2) * 0.5, 0.0, 1.0);
-    }
+// Its bytes beside its shape.
+#[derive(Clone, Copy)]
+struct Source<'a> {
+    bytes: &'a [u8],
+    shape: plane::Shape,
 }
 
-fn yadif(
-    out: &mut [f32],
-    rows: &mut [f32],
-    making: filter::Making,
-    before: &[u8],
-    cur: &[u8],
-    after: &[u8],
-    y: usize,
-    from: usize,
-)
-    requires all_lent { AllLent making (length before.now) (length cur.now) (length after.now) }
-    requires tiled { Tiled making.cur y from (length out.old) × (length rows.old ≡ 5240) }
-    ensures out_after { out.new ≡ tile_of yadif_of making before.now cur.now after.now from (length out.old) y }
-    ensures rows_len { length rows.new ≡ 5240 }
-{
-    motion(rows, making, before, cur, after, y, from, out.len());
-    for x in 0..out.len() {
-        let pick = edge::<ABOVE>(rows, x);
-        out[x] = in_motion(rows, x, pick.near * 0.5);
+impl Source<'_> {
+    // The samples of a row from a column on, by the number of bytes that one has and of components that
+    // share the plane.
+    fn samples(self, dst: &mut [f32], row: usize, from: usize)
+        requires lent { Whole self }
+        requires row_lt_height { (row < self.shape.height) × (from + length dst.old ≤ self.shape.width) }
+        ensures { dst.new ≡ listed (length dst.old) (λ x. value_in self.entry (pos (from + x)) (pos row)) }
+    {
+        let at = start(row, self.shape.stride);
+        let component = self.shape.layout.component();
+        let shared = self.shape.layout.components();
+        if self.shape.depth <= 8 {
+            if shared <= 1 {
+                scan(dst, self.bytes, at + component, 1, from, 8, 0, 255);
+                return;
+            }
+            scan(dst, self.bytes, at + component, 2, from, 8, 0, 255);
+            return;
+        }
+        let shift = self.shape.layout.shift(self.shape.depth);
+        let full = plane::full_code(self.shape.depth);
+        if shared <= 1 {
+            scan(
+                dst,
+                self.bytes,
+                at + 2 * component,
+                2,
+                from,
+                16,
+                shift,
+                full,
+            );
+            return;
+        }
+        scan(
+            dst,
+            self.bytes,
+            at + 2 * component,
+            4,
+            from,
+            16,
+            shift,
+            full,
+        );
     }
-}
 
-fn bwdif(
-    out: &mut [f32],
-    rows: &mut [f32],
-    making: filter::Making,
-    before: &[u8],
-    cur: &[u8],
-    after: &[u8],
-    y: usize,
-    from: usize,
-)
-    requires all_lent { AllLent making (length before.now) (length cur.now) (length after.now) }
-    requires tiled { Tiled making.cur y from (length out.old) × (length rows.old ≡ 5240) }
-    ensures out_after { out.new ≡ tile_of bwdif_of making before.now cur.now after.now from (length out.old) y }
-    ensures rows_len { length rows.new ≡ 5240 }
-{
-    motion(rows, making, before, cur, after, y, from, out.len());
-    around(rows, FAR_ABOVE, cur, making.cur, y, 3, from, out.len());
-    for x in 0..out.len() {
-        let pick = edge::<FAR_ABOVE>(rows, x);
-        out[x] = in_motion(rows, x, filter::cubic(pick.near, pick.far));
+    // The columns of a row that a tile needs, into the places from `start` on. The samples within the plane
+    // are read, and those past an edge repeat the last within. A sampler holds a coordinate that lies outside
+    // the plane, so one row of the plane stands for several rows of the sampler.
+    fn expand(self, rows: &mut [f32], start: usize, row: usize, from: usize, count: usize)
+        requires lent { Whole self }
+        requires tiled { Tiled self.shape row from count × (length rows.old ≡ 5240) × (start ≤ 4716) }
+        ensures row_of { (y : ℤ) → held self.entry.shape.height y ≡ row → RowOf rows.new start from count y (value_in self.entry) }
+        ensures under { Under rows.new rows.old start }
+    {
+        let end = start + (count + 12);
+        let first = start + 6usize.saturating_sub(from);
+        let last = end - (from + count + 6).saturating_sub(usize::from(self.shape.width));
+        self.samples(&mut rows[first..last], row, from.saturating_sub(6));
+        let leftmost = rows[first];
+        let rightmost = rows[last - 1];
+        rows[start..first].fill(leftmost);
+        rows[last..end].fill(rightmost);
+    }
+
+    // The rows k above and below. A row above the first is the first, and one below the last is the last.
+    fn around(self, rows: &mut [f32], start: usize, y: usize, k: usize, from: usize, count: usize)
+        requires lent { Whole self }
+        requires tiled { Tiled self.shape y from count × (length rows.old ≡ 5240) × (start ≤ 4192) × (k ≤ 3) }
+        ensures around { Around rows.new start from count (pos y) (pos k) (value_in self.entry) }
+        ensures under { Under rows.new rows.old start }
+    {
+        let last = usize::from(self.shape.height) - 1;
+        self.expand(rows, start, y.saturating_sub(k), from, count);
+        self.expand(rows, start + 524, (y + k).min(last), from, count);
+    }
+
+    fn trio(self, rows: &mut [f32], start: usize, y: usize, from: usize, count: usize)
+        requires lent { Whole self }
+        requires tiled { Tiled self.shape y from count × (length rows.old ≡ 5240) × (start ≤ 3668) }
+        ensures trio { Trio rows.new start from count (pos y) (value_in self.entry) }
+        ensures under { Under rows.new rows.old start }
+    {
+        self.around(rows, start, y, 1, from, count);
+        self.expand(rows, start + 1048, y, from, count);
+    }
+
+    fn bob(self, out: &mut [f32], rows: &mut [f32], y: usize, from: usize)
+        requires lent { Whole self }
+        requires tiled { Tiled self.shape y from (length out.old) × (length rows.old ≡ 5240) }
+        ensures out_after { out.new ≡ listed (length out.old) (λ x. bob_of (value_in self.entry) (pos (from + x)) (pos y)) }
+        ensures rows_len { length rows.new ≡ 5240 }
+    {
+        self.around(rows, ABOVE, y, 1, from, out.len());
+        for x in 0..out.len() {
+            out[x] = float::clamp(near(rows, x, 2) * 0.5, 0.0, 1.0);
+        }
     }
 }
 
@@ -403,107 +337,120 @@ fn kept(quality: Quality, mated: bool, shown: bool) -> bool
     }
 }
 
-fn tile(
-    out: &mut [f32],
-    rows: &mut [f32],
-    making: filter::Making,
-    before: &[u8],
-    cur: &[u8],
-    after: &[u8],
-    y: usize,
-    from: usize,
-)
-    requires all_lent { AllLent making (length before.now) (length cur.now) (length after.now) }
-    requires tiled { Tiled making.cur y from (length out.old) × (length rows.old ≡ 5240) }
-    ensures out_after { out.new ≡ sample_tile making before.now cur.now after.now from (length out.old) y }
-    ensures rows_len { length rows.new ≡ 5240 }
-{
-    let parity = (y % 2) as u32;
-    let rows_shown = making.rows;
-    if kept(
-        making.quality,
-        parity == rows_shown.mate,
-        parity == rows_shown.first,
-    ) {
-        samples(out, cur, making.cur, y, from);
-        return;
+// ---- what lines are made from: the planes, how missing rows are made, and which rows are shown
+
+#[derive(Clone, Copy)]
+struct Request<'a> {
+    quality: Quality,
+    shown: filter::Rows,
+    before: Source<'a>,
+    cur: Source<'a>,
+    after: Source<'a>,
+}
+
+impl Request<'_> {
+    // What Motion looks at, of all three planes.
+    fn motion(self, rows: &mut [f32], y: usize, from: usize, count: usize)
+        requires all_lent { AllWhole self }
+        requires tiled { Tiled self.cur.shape y from count × (length rows.old ≡ 5240) }
+        ensures moving { Moving rows.new self.entry from count y }
+        ensures rows_len { length rows.new ≡ 5240 }
+    {
+        self.cur.around(rows, ABOVE, y, 1, from, count);
+        self.before.trio(rows, EARLIER_UP, y, from, count);
+        self.after.trio(rows, LATER_UP, y, from, count);
     }
-    match making.quality {
-        Quality::Weave => samples(out, before, making.before, y, from),
-        Quality::Bob => bob(out, rows, cur, making.cur, y, from),
-        Quality::Yadif => yadif(out, rows, making, before, cur, after, y, from),
-        Quality::Bwdif => bwdif(out, rows, making, before, cur, after, y, from),
+
+    fn yadif(self, out: &mut [f32], rows: &mut [f32], y: usize, from: usize)
+        requires all_lent { AllWhole self }
+        requires tiled { Tiled self.cur.shape y from (length out.old) × (length rows.old ≡ 5240) }
+        ensures out_after { out.new ≡ tile_of yadif_of self.entry from (length out.old) y }
+        ensures rows_len { length rows.new ≡ 5240 }
+    {
+        self.motion(rows, y, from, out.len());
+        for x in 0..out.len() {
+            let pick = edge::<ABOVE>(rows, x);
+            out[x] = in_motion(rows, x, pick.near * 0.5);
+        }
+    }
+
+    fn bwdif(self, out: &mut [f32], rows: &mut [f32], y: usize, from: usize)
+        requires all_lent { AllWhole self }
+        requires tiled { Tiled self.cur.shape y from (length out.old) × (length rows.old ≡ 5240) }
+        ensures out_after { out.new ≡ tile_of bwdif_of self.entry from (length out.old) y }
+        ensures rows_len { length rows.new ≡ 5240 }
+    {
+        self.motion(rows, y, from, out.len());
+        self.cur.around(rows, FAR_ABOVE, y, 3, from, out.len());
+        for x in 0..out.len() {
+            let pick = edge::<FAR_ABOVE>(rows, x);
+            out[x] = in_motion(rows, x, filter::cubic(pick.near, pick.far));
+        }
+    }
+
+    fn tile(self, out: &mut [f32], rows: &mut [f32], y: usize, from: usize)
+        requires all_lent { AllWhole self }
+        requires tiled { Tiled self.cur.shape y from (length out.old) × (length rows.old ≡ 5240) }
+        ensures out_after { out.new ≡ sample_tile self.entry from (length out.old) y }
+        ensures rows_len { length rows.new ≡ 5240 }
+    {
+        let parity = (y % 2) as u32;
+        if kept(
+            self.quality,
+            parity == self.shown.mate,
+            parity == self.shown.first,
+        ) {
+            self.cur.samples(out, y, from);
+            return;
+        }
+        match self.quality {
+            Quality::Weave => self.before.samples(out, y, from),
+            Quality::Bob => self.cur.bob(out, rows, y, from),
+            Quality::Yadif => self.yadif(out, rows, y, from),
+            Quality::Bwdif => self.bwdif(out, rows, y, from),
+        }
+    }
+
+    // Ten rows of 512 columns stay in the nearest cache. The last tile is shorter. A `while`, since a proof does not
+    // know what stands in a slice once its `chunks_mut` are let go.
+    fn line(self, out: &mut [f32], rows: &mut [f32], y: usize, left: usize)
+        requires all_lent { AllWhole self }
+        requires y_lt_height { (y < self.cur.shape.height) × (left + length out.old ≤ self.cur.shape.width) × (length rows.old ≡ 5240) }
+        ensures out_after { out.new ≡ sample_tile self.entry left (length out.old) y }
+        ensures rows_len { length rows.new ≡ 5240 }
+    {
+        let mut x = 0;
+        while x < out.len() {
+            let to = (x + 512).min(out.len());
+            self.tile(&mut out[x..to], rows, y, left + x);
+            x = to;
+        }
+    }
+
+    // The rows are made once for all lines, since to clear them costs as much as to make a line.
+    #[tactic(auto, using(crate::proofs::Tiles::row_ends))]
+    fn lines(self, out: &mut [f32], place: Place)
+        requires all_lent { AllWhole self }
+        requires height_bound { (place.top + place.height ≤ self.cur.shape.height) × (place.left + place.width ≤ self.cur.shape.width) }
+        requires width_in_bounds { place.height * place.width ≤ length out.old }
+        ensures { out.new ≡ over (part_of self.entry.quality self.entry.shown place (value_in self.entry.before) (value_in self.entry.cur) (value_in self.entry.after)) out.old }
+    {
+        let mut rows = [0.0f32; 5240];
+        let width = usize::from(place.width);
+        for y in 0..usize::from(place.height) {
+            let at = y * width;
+            let to = at + width;
+            self.line(
+                &mut out[at..to],
+                &mut rows[0..5240],
+                usize::from(place.top) + y,
+                usize::from(place.left),
+            );
+        }
     }
 }
 
-// ---- a line, a part and the whole plane
-
-// Ten rows of 512 columns stay in the nearest cache. The last tile is shorter. A `while`, since a proof does not
-// know what stands in a slice once its `chunks_mut` are let go.
-fn line(
-    out: &mut [f32],
-    rows: &mut [f32],
-    making: filter::Making,
-    before: &[u8],
-    cur: &[u8],
-    after: &[u8],
-    y: usize,
-    left: usize,
-)
-    requires all_lent { AllLent making (length before.now) (length cur.now) (length after.now) }
-    requires y_lt_height { (y < making.cur.height) × (left + length out.old ≤ making.cur.width) × (length rows.old ≡ 5240) }
-    ensures out_after { out.new ≡ sample_tile making before.now cur.now after.now left (length out.old) y }
-    ensures rows_len { length rows.new ≡ 5240 }
-{
-    let mut x = 0;
-    while x < out.len() {
-        let to = (x + 512).min(out.len());
-        tile(
-            &mut out[x..to],
-            rows,
-            making,
-            before,
-            cur,
-            after,
-            y,
-            left + x,
-        );
-        x = to;
-    }
-}
-
-// The rows are made once for all lines, since to clear them costs as much as to make a line.
-#[tactic(auto, using(crate::proofs::Tiles::row_ends))]
-fn lines(
-    out: &mut [f32],
-    making: filter::Making,
-    before: &[u8],
-    cur: &[u8],
-    after: &[u8],
-    place: Place,
-)
-    requires all_lent { AllLent making (length before.now) (length cur.now) (length after.now) }
-    requires height_bound { (place.top + place.height ≤ making.cur.height) × (place.left + place.width ≤ making.cur.width) }
-    requires width_in_bounds { place.height * place.width ≤ length out.old }
-    ensures { out.new ≡ over (part_made making place before.now cur.now after.now) out.old }
-{
-    let mut rows = [0.0f32; 5240];
-    let width = usize::from(place.width);
-    for y in 0..usize::from(place.height) {
-        let at = y * width;
-        let to = at + width;
-        line(
-            &mut out[at..to],
-            &mut rows[0..5240],
-            making,
-            before,
-            cur,
-            after,
-            usize::from(place.top) + y,
-            usize::from(place.left),
-        );
-    }
-}
+// ---- a part and the whole plane
 
 // Whether a part can be made where so many samples are lent. Numbers 3 to 7.
 #[tactic(auto, unfolding(laws::specs::Refusal::lowest))]
@@ -539,8 +486,24 @@ pub fn part(
     ensures value { no_of result ≡ part_no making place (length before.now) (length cur.now) (length after.now) (length out.old) }
     ensures out_after { out.new ≡ written (no_of result) (over (part_made making place before.now cur.now after.now) out.old) out.old }
 {
+    let request = Request {
+        quality: making.quality,
+        shown: making.rows,
+        before: Source {
+            bytes: before,
+            shape: making.before,
+        },
+        cur: Source {
+            bytes: cur,
+            shape: making.cur,
+        },
+        after: Source {
+            bytes: after,
+            shape: making.after,
+        },
+    };
     judge(making, place, before, cur, after, out.len())?;
-    lines(out, making, before, cur, after, place);
+    request.lines(out, place);
     Ok(())
 }
 

@@ -5,7 +5,7 @@ use lib.ListN.{length}
 use Rattle.laws.proofs.Lists.{Filled}
 use Rattle.filter.specs.Filter.{Sampler, three, bwdif_of}
 use Rattle.fill.specs.Rows.{Around, Motion}
-use Rattle.fill.proofs.bwdif.Given as goal
+use Rattle.fill.proofs.Request.bwdif.Given as goal
 
 abbrev pub invariant-loop-x : goal.invariant-loop-x
 invariant-loop-x l =

@@ -1,7 +1,7 @@
 use mathlib.Core.Path.{◌∙◌}
 use native.Mathlib.Omega.{arith}
 use Rattle.fill.proofs.Expanded.{around_stays, trio_stays}
-use Rattle.fill.proofs.motion.Goals as goal
+use Rattle.fill.proofs.Request.motion.Goals as goal
 
 pub returns : goal.returns
 returns c =

@@ -4,9 +4,9 @@ use native.Mathlib.Omega.{arith}
 use lib.IntN.{pos}
 use lib.ListN.{length, length-set}
 use Rattle.laws.proofs.Lists.{fill_starts, fills, fill_ends}
-use Rattle.plane.specs.Plane.{value_of}
+use Rattle.fill.specs.Lines.{value_in}
 use Rattle.fill.proofs.Slants.{bob_is}
-use Rattle.fill.proofs.bob.Goals as goal
+use Rattle.fill.proofs.Source.bob.Goals as goal
 
 pub loop-x-init : goal.loop-x-init
 loop-x-init c = (zero-le, refl, λ v h. fill_starts)
@@ -33,4 +33,4 @@ shape_of-rows c = c.around.ensures.under.size
 pub returns : goal.returns
 returns c =
     let near = c.around.ensures in
-    record { out_after = fill_ends (c.loop-x.invariant.2 (value_of c.args.src.now c.args.s) near.around) (omega arith); rows_len = near.under.size ∙ c.requires.tiled.1 }
+    record { out_after = fill_ends (c.loop-x.invariant.2 (value_in c.args.self) near.around) (omega arith); rows_len = near.under.size ∙ c.requires.tiled.1 }

@@ -5,7 +5,7 @@ use lib.ListN.{length}
 use Rattle.laws.proofs.Lists.{Filled}
 use Rattle.filter.specs.Filter.{Sampler, one, bob_of}
 use Rattle.fill.specs.Rows.{Around}
-use Rattle.fill.proofs.bob.Given as goal
+use Rattle.fill.proofs.Source.bob.Given as goal
 
 abbrev pub invariant-loop-x : goal.invariant-loop-x
 invariant-loop-x l =

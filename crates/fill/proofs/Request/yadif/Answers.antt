@@ -4,11 +4,11 @@ use native.Mathlib.Omega.{arith}
 use lib.IntN.{pos}
 use lib.ListN.{length, length-set}
 use Rattle.laws.proofs.Lists.{fill_starts, fills, fill_ends}
-use Rattle.plane.specs.Plane.{value_of}
+use Rattle.fill.specs.Lines.{value_in}
 use Rattle.filter.specs.Filter.{one, half_f, edge_of, in_motion_of, yadif_of}
 use lib.Ieee.{binary32, mul}
 use Rattle.fill.specs.declared.Pick.{Pick}
-use Rattle.fill.proofs.yadif.Goals as goal
+use Rattle.fill.proofs.Request.yadif.Goals as goal
 
 pub loop-x-init : goal.loop-x-init
 loop-x-init c = (zero-le, refl, λ p q r m. fill_starts)
@@ -48,4 +48,4 @@ pub returns : goal.returns
 returns c =
     let a = c.args in
     let rows = c.motion.ensures in
-    record { out_after = fill_ends (c.loop-x.invariant.2 (value_of a.before.now a.making.before) (value_of a.cur.now a.making.cur) (value_of a.after.now a.making.after) rows.moving) (omega arith); rows_len = rows.rows_len }
+    record { out_after = fill_ends (c.loop-x.invariant.2 (value_in a.self.before) (value_in a.self.cur) (value_in a.self.after) rows.moving) (omega arith); rows_len = rows.rows_len }

@@ -4,11 +4,11 @@ use native.Mathlib.Omega.{arith}
 use lib.IntN.{pos}
 use lib.ListN.{length, length-set}
 use Rattle.laws.proofs.Lists.{fill_starts, fills, fill_ends}
-use Rattle.plane.specs.Plane.{value_of}
+use Rattle.fill.specs.Lines.{value_in}
 use Rattle.filter.specs.Filter.{three, cubic_of, edge_of, in_motion_of, far_of, bwdif_of}
 use Rattle.fill.specs.declared.Pick.{Pick}
 use Rattle.fill.proofs.Expanded.{motion_stays}
-use Rattle.fill.proofs.bwdif.Goals as goal
+use Rattle.fill.proofs.Request.bwdif.Goals as goal
 
 pub around-requires : goal.around-requires
 around-requires c =
@@ -53,4 +53,4 @@ returns c =
     let a = c.args in
     let rows = c.motion.ensures in
     let far = c.around.ensures in
-    record { out_after = fill_ends (c.loop-x.invariant.2 (value_of a.before.now a.making.before) (value_of a.cur.now a.making.cur) (value_of a.after.now a.making.after) (motion_stays far.under c.requires.tiled.0.few rows.moving) far.around) (omega arith); rows_len = far.under.size ∙ rows.rows_len }
+    record { out_after = fill_ends (c.loop-x.invariant.2 (value_in a.self.before) (value_in a.self.cur) (value_in a.self.after) (motion_stays far.under c.requires.tiled.0.few rows.moving) far.around) (omega arith); rows_len = far.under.size ∙ rows.rows_len }

@@ -5,7 +5,7 @@ use lib.ListN.{length}
 use Rattle.laws.proofs.Lists.{Filled}
 use Rattle.filter.specs.Filter.{Sampler, yadif_of}
 use Rattle.fill.specs.Rows.{Motion}
-use Rattle.fill.proofs.yadif.Given as goal
+use Rattle.fill.proofs.Request.yadif.Given as goal
 
 abbrev pub invariant-loop-x : goal.invariant-loop-x
 invariant-loop-x l =

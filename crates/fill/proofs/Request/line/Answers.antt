@@ -2,9 +2,9 @@ use mathlib.Core.Path.{sym, ◌∙◌}
 use native.Mathlib.Omega.{arith}
 use lib.IntN.{pos}
 use Rattle.laws.proofs.Lists.{fill_starts, fill_ends}
-use Rattle.filter.specs.Making.{sample_in}
+use Rattle.fill.specs.Lines.{sample_for}
 use Rattle.fill.proofs.Tiles.{tile_within, tile_more}
-use Rattle.fill.proofs.line.Goals as goal
+use Rattle.fill.proofs.Request.line.Goals as goal
 
 pub loop-x-init : goal.loop-x-init
 loop-x-init c = (fill_starts, c.requires.y_lt_height.2)
@@ -35,7 +35,7 @@ pub loop-x-preserved : goal.loop-x-preserved
 loop-x-preserved c =
     let a = c.args in
     let e = c.tile.ensures in (
-      tile_more (λ x. sample_in a.making a.before.now a.cur.now a.after.now (pos x) (pos a.y)) a.left c.loop-x.x _ c.loop-x.invariant.0
+      tile_more (λ x. sample_for a.self (pos x) (pos a.y)) a.left c.loop-x.x _ c.loop-x.invariant.0
           (omega (arith, c.loop-x-test.true)) (omega (arith, c.loop-x.invariant.0.long)) e.out_after,
       e.rows_len,
     )

@@ -1,7 +1,7 @@
 use native.Mathlib.Omega.{arith}
 use lib.IntN.{pos}
 use Rattle.fill.proofs.Expanded.{under_more, around_stays, held_here}
-use Rattle.fill.proofs.trio.Goals as goal
+use Rattle.fill.proofs.Source.trio.Goals as goal
 
 pub returns : goal.returns
 returns c =
@@ -11,7 +11,7 @@ returns c =
     let mid = c.expand.ensures in record {
       trio = record {
         near = around_stays mid.under tiled.few (omega arith) near.around;
-        mid = mid.row_of (pos a.y) (held_here a.s.height a.y tiled.row);
+        mid = mid.row_of (pos a.y) (held_here a.self.shape.height a.y tiled.row);
       };
       under = under_more mid.under near.under (omega arith);
     }
