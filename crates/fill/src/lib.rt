@@ -69,7 +69,7 @@ fn value(src: &[u8], depth: u8, shift: u8, full: u16, i: usize) -> f32
     requires { (i + sample_bytes depth ≤ length src.now) × (shift ≤ 7) }
     ensures { result ≡ stored_value src.now depth shift full i }
 {
-    ((stored(src, depth, i) >> shift).min(full) as f32) / (full as f32)
+    f32::from((stored(src, depth, i) >> shift).min(full)) / f32::from(full)
 }
 
 // Samples from the column `from` on, `step` bytes from one to the next. Each caller gives step and depth
@@ -102,7 +102,7 @@ fn start(row: usize, stride: u32) -> usize
     row * (stride as usize)
 }
 
-// The rows stand one behind the other, each in 524 places. Of cur, the row above,
+// The rows stand one behind the other, each in 524 places, in one slice: parts of it are lent to write into. Of cur, the row above,
 const ABOVE: usize = 0;
 // and the row below.
 const BELOW: usize = 524;
@@ -473,7 +473,8 @@ fn judge(
     Refusal::ShortOutput.unless(place.area() <= room)
 }
 
-// The samples of a part, row by row, laid end to end.
+// The samples of a part, row by row, laid end to end. Slices and shapes apart, since a public signature with a
+// struct of slices has no plain contract (`part_once`).
 #[tactic(auto, using(crate::proofs::Judged::judged))]
 pub fn part(
     out: &mut [f32],

@@ -417,7 +417,8 @@ pub fn edge(cur: &[u8], shape: plane::Shape, x: i32, y: i32) -> Result<i32, Refu
     Ok(slant as i32 - 2)
 }
 
-// The value at a place, of a picture that shows the rows `making.rows.first` of `cur`.
+// The value at a place, of a picture that shows the rows `making.rows.first` of `cur`. Slices and shapes apart,
+// since a public signature with a struct of slices has no plain contract (`sample_once`).
 pub fn sample(
     making: Making,
     before: &[u8],
