@@ -48,9 +48,6 @@ module _ (start n : ℕ) (part l : List ℕ) (size : length part ≡ n) (room : 
       ∙ ap (λ (k : ℕ). get_or l k 0) back
 
 -- ---- a tile, row after row
-pub tile_starts : {part : ℕ → List ℕ} {count width left span : ℕ} {old : List ℕ} → Tiled part count width left span old old 0
-tile_starts = record { long = refl; kept = λ y j l m. refl; put = λ y j l m. absurd (omega arith) }
-
 -- what stands in the rows before row y ends before it starts
 above : (y' y width : ℕ) → y' < y → y' * width + width ≤ y * width
 above y' y width l = row_within y' y width (y * width) l (le_refl (y * width))
@@ -111,9 +108,6 @@ module _ {row part : ℕ → List ℕ} {count width left span : ℕ} {old new : 
           let few : k < span = omega (arith, ltb-false j left b, m) in
           let at : j ≡ left + k = omega (arith, ltb-false j left b) in
           ap (λ (n : ℕ). get_or new (y * width + n) 0) at ∙ t.put y k l few ∙ same y k l few ∙ ap (λ (n : ℕ). get_or (row y) n 0) (sym at)
-
-pub painted_none : {row : ℕ → List ℕ} {count width : ℕ} {l : List ℕ} → Painted row count width 0 l
-painted_none = record { places = λ y j l m. absurd (omega arith) }
 
 pub painted_to : {row : ℕ → List ℕ} {count width m n : ℕ} {l : List ℕ} → m ≡ n → Painted row count width m l → Painted row count width n l
 painted_to {row} {count} {width} {m} {n} {l} e = subst (λ (upto : ℕ). Painted row count width upto l) e
