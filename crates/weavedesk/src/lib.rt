@@ -327,7 +327,8 @@ pub extern "C" fn desk_line_number(
 ) -> u8
     ensures { result ≡ line_no (grid_named top) top_bytes (grid_named bottom) bottom_bytes y }
 {
-    refusal::number(line_fits(top, top_bytes as usize, bottom, bottom_bytes as usize, y))
+    let answer = line_fits(top, top_bytes as usize, bottom, bottom_bytes as usize, y);
+    refusal::number(answer)
 }
 
 // The bytes of a single woven line, copied out, of fields with at most 2,176 lines. Numbers 3 to 7.
