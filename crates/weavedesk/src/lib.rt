@@ -430,7 +430,6 @@ pub extern "C" fn desk_readback_copy(
 }
 
 // A weaver with no field, at the start of `state`. Number 7.
-#[tactic(auto, unfolding(laws::specs::Refusal::lowest))]
 #[unsafe(no_mangle)]
 pub extern "C" fn desk_weaver_new(state: &mut [u8]) -> u8
     ensures value { result ≡ new_no (length state.old) }
@@ -444,7 +443,6 @@ pub extern "C" fn desk_weaver_new(state: &mut [u8]) -> u8
 }
 
 // Throws away the field that waits. Number 6.
-#[tactic(auto, unfolding(laws::specs::Refusal::lowest))]
 #[unsafe(no_mangle)]
 pub extern "C" fn desk_weaver_clear(state: &mut [u8]) -> u8
     ensures value { result ≡ clear_no (length state.old) }
