@@ -5,12 +5,12 @@ use mathlib.Core.Bool.{Bool, true, false, ◌&&◌}
 use mathlib.Core.List.{List, [], ◌∷◌}
 use native.Mathlib.Omega.{arith}
 use lib.Dec.{leb}
+use Rattle.std.proofs.Common.{Option, None, Some}
+use lib.IntN.{ℤ}
 use lib.ListN.{length}
 use borrow.Author.Tests.{lt-leb, ne_eqb}
 use Rattle.laws.specs.Refusal.{lowest, rising, written}
 use Rattle.laws.proofs.Refusal.{all_pass, stays}
-use Rattle.weaver.specs.declared.Time.{Time}
-use Rattle.weaver.specs.declared.Time.TheVariants as time
 use Rattle.weaver.specs.History as calls
 use Rattle.weaver.specs.Claims as claims
 use Rattle.weaver.proofs.Claims as weaver
@@ -20,13 +20,13 @@ use Rattle.weavedesk.specs.Claims.{Gives, PairsWoven, RefusalKnown, RefusedLeave
 use Rattle.weavedesk.proofs.Carried.{state_in, number_same, alone_fails, Follows, follows}
 
 -- ---- what a field gets
-timed_one : (t : Time) → timed_number (t ∷ []) ≡ timed_of t
-timed_one time.Absent = refl
-timed_one (time.At at) = refl
+timed_one : (t : Option ℤ) → timed_number (t ∷ []) ≡ timed_of t
+timed_one None = refl
+timed_one (Some at) = refl
 
-time_one : (t : Time) → time_number (t ∷ []) ≡ time_of t
-time_one time.Absent = refl
-time_one (time.At at) = refl
+time_one : (t : Option ℤ) → time_number (t ∷ []) ≡ time_of t
+time_one None = refl
+time_one (Some at) = refl
 
 module _ (l : Lent) (o : Offer) (done : push_no l o ≡ 0) (number : push_no l o ≡ calls.number_in (state_in l) (field_meant o)) where
   gives : (w : calls.Waiting) → claims.Gives w (state_in l) (field_meant o) → Gives w l o

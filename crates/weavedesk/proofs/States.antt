@@ -6,6 +6,7 @@ use mathlib.Core.List.{List}
 use native.Mathlib.Nat.{mod-lt, mod-eq_of_lt, lt_trans}
 use native.Mathlib.Omega.{arith}
 use lib.Dec.{T, leb, eqb, ltb, ltb→lt, lit<}
+use Rattle.std.proofs.Common.{Option, None, Some}
 use lib.ListN.{get_or}
 use lib.IntN.{ℤ, pos, negsuc}
 use Rattle.laws.proofs.Bools.{halves}
@@ -20,8 +21,6 @@ use Rattle.packed.specs.Packed.{number_at}
 use Rattle.packed.proofs.Claims.{reads_back}
 use Rattle.weave.specs.Weave.{good_lines}
 use Rattle.weave.proofs.Judged.{each_of_three}
-use Rattle.weaver.specs.declared.Time.{Time}
-use Rattle.weaver.specs.declared.Time.TheVariants as time
 use Rattle.weaver.specs.declared.Weaver.{Weaver}
 use Rattle.weaver.specs.Weaver.{empty_weaver, waiting_for, fits}
 use Rattle.weavedesk.specs.Woven.{flag_named, flag_number, field_named}
@@ -38,10 +37,10 @@ parity_back : (p : Parity) → parity_named (first_row_of p) ≡ p
 parity_back parity.Top = refl
 parity_back parity.Bottom = refl
 
-time_back : (t : Time) → time_size t < 2 ^ 63 → time_of (time_kind t) (time_size t) ≡ t
-time_back time.Absent h = refl
-time_back (time.At (pos n)) h = ap (λ (k : ℕ). time.At (pos k)) (mod-eq_of_lt h)
-time_back (time.At (negsuc n)) h = ap (λ (k : ℕ). time.At (negsuc k)) (mod-eq_of_lt h)
+time_back : (t : Option ℤ) → time_size t < 2 ^ 63 → time_of (time_kind t) (time_size t) ≡ t
+time_back None h = refl
+time_back (Some (pos n)) h = ap (λ (k : ℕ). Some (pos k)) (mod-eq_of_lt h)
+time_back (Some (negsuc n)) h = ap (λ (k : ℕ). Some (negsuc k)) (mod-eq_of_lt h)
 
 held_small : (b : Bool) → flag_number b < 2 ^ 64
 held_small true = lit< tt
@@ -51,10 +50,10 @@ parity_small : (p : Parity) → first_row_of p < 2 ^ 64
 parity_small parity.Top = lit< tt
 parity_small parity.Bottom = lit< tt
 
-kind_small : (t : Time) → time_kind t < 2 ^ 64
-kind_small time.Absent = lit< tt
-kind_small (time.At (pos n)) = lit< tt
-kind_small (time.At (negsuc n)) = lit< tt
+kind_small : (t : Option ℤ) → time_kind t < 2 ^ 64
+kind_small None = lit< tt
+kind_small (Some (pos n)) = lit< tt
+kind_small (Some (negsuc n)) = lit< tt
 
 -- ---- a weaver that was written is found again
 module _ (w : Weaver) (bytes : List ℕ) (s : Sized w) where
@@ -79,7 +78,7 @@ pub found_again : FoundAgain
 found_again = found
 
 -- ---- what bytes hold, and what a push leaves, has the sizes of its places
-either_size : (b : Bool) (x y : Time) → time_size x < 2 ^ 63 → time_size y < 2 ^ 63 → time_size (cond b x y) < 2 ^ 63
+either_size : (b : Bool) (x y : Option ℤ) → time_size x < 2 ^ 63 → time_size y < 2 ^ 63 → time_size (cond b x y) < 2 ^ 63
 either_size true x y h k = h
 either_size false x y h k = k
 
@@ -93,7 +92,7 @@ either_sized false x y h k = k
 
 time_sized : (kind size : ℕ) → time_size (time_of kind size) < 2 ^ 63
 time_sized kind size =
-    either_size (eqb kind 0) time.Absent (time.At (cond (eqb kind 1) (pos (size % 2 ^ 63)) (negsuc (size % 2 ^ 63)))) (lit< tt)
+    either_size (eqb kind 0) None (Some (cond (eqb kind 1) (pos (size % 2 ^ 63)) (negsuc (size % 2 ^ 63)))) (lit< tt)
     (either_whole (eqb kind 1) (pos (size % 2 ^ 63)) (negsuc (size % 2 ^ 63)) (mod-lt size (lit< tt)) (mod-lt size (lit< tt)))
 
 pub always_sized : AlwaysSized
@@ -123,5 +122,5 @@ push_sized l o done h =
       width = below 65536 w.width_most tt;
       height = below 65536 w.height_most tt;
       depth = below 256 w.depth_most tt;
-      time = either_size (eqb o.timed 0) time.Absent (time.At o.time) (lit< tt) h;
+      time = either_size (eqb o.timed 0) None (Some o.time) (lit< tt) h;
     }

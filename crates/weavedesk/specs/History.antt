@@ -1,12 +1,10 @@
 -- Histories of the exported calls on a weaver, from `desk_weaver_new` on, state and store lent back as they were left; refused calls may stand
 -- anywhere. First what the calls leave, by the very definitions that their contracts cite; then the fields that the host's numbers mean, spelled out
 -- here and nowhere taken from the contracts, so that the two can be held against each other. Lists of calls are newest first.
-use Rattle.std.specs.Prelude.{ℕ, ◌<◌, ◌^◌, ◌≡◌, Bool, cond, ◌&&◌, List, [], ◌∷◌, leb, eqb, ℤ, pos, length}
+use Rattle.std.specs.Prelude.{ℕ, ◌<◌, ◌^◌, ◌≡◌, Bool, cond, ◌&&◌, List, [], ◌∷◌, leb, eqb, ℤ, pos, length, Option, None, Some}
 use Rattle.field.specs.declared.Parity.TheVariants as parity
 use Rattle.plane.specs.declared.Grid.{Grid}
 use Rattle.numbers.specs.declared.GridNumbers.{GridNumbers}
-use Rattle.weaver.specs.declared.Time.{Time}
-use Rattle.weaver.specs.declared.Time.TheVariants as time
 use Rattle.weaver.specs.History as calls
 use Rattle.weavedesk.specs.Waiting.{whole_size}
 use Rattle.weavedesk.specs.Push.{Lent, Offer, new_no, clear_no, emptied, push_no, state_after, store_after}
@@ -57,7 +55,7 @@ field_meant o = record {
     cr = o.cr;
   };
   parity = cond (eqb o.parity 0) parity.Top parity.Bottom;
-  time = cond (eqb o.timed 0) time.Absent (time.At o.time);
+  time = cond (eqb o.timed 0) None (Some o.time);
   luma_room = o.luma_room;
   cb_room = o.cb_room;
   cr_room = o.cr_room;
@@ -75,10 +73,10 @@ calls_of (push o _ ∷ earlier) = cond (codes_named o) (calls.push (field_meant 
 calls_of (clear ∷ earlier) = calls.clear ∷ calls_of earlier
 
 -- how a time is handed back: 1 and the time, or 0 and 0
-abbrev pub timed_of : Time → ℕ
-timed_of time.Absent = 0
-timed_of (time.At at) = 1
+abbrev pub timed_of : Option ℤ → ℕ
+timed_of None = 0
+timed_of (Some at) = 1
 
-abbrev pub time_of : Time → ℤ
-time_of time.Absent = pos 0
-time_of (time.At at) = at
+abbrev pub time_of : Option ℤ → ℤ
+time_of None = pos 0
+time_of (Some at) = at

@@ -1,13 +1,12 @@
--- What inner functions give: numbers narrowed for the crates beneath, and what an answer of the weaver holds. Only contracts of inner functions cite
+-- What inner functions give: numbers narrowed for the crates beneath, and what a push is judged by first. Only contracts of inner functions cite
 -- this file.
-use Rattle.std.specs.Prelude.{min, List, [], ◌∷◌}
+use Rattle.std.specs.Prelude.{ℕ, Bool, min, List, [], ◌∷◌, leb}
 use Rattle.numbers.specs.Numbers.{grid_named}
 use Rattle.numbers.specs.Inner.{cut_grid}
 use Rattle.weave.specs.declared.Field.{Field}
 use Rattle.readback.specs.declared.Readback.{Readback}
-use Rattle.weaver.specs.declared.Time.{Time}
-use Rattle.weaver.specs.declared.Paired.{Paired}
-use Rattle.weaver.specs.declared.Paired.TheVariants as paired
+use Rattle.weave.specs.Weave.{good_field, chroma_fits}
+use Rattle.weavedesk.specs.Waiting.{state_bytes}
 use Rattle.weavedesk.specs.declared.FieldNumbers.{FieldNumbers}
 use Rattle.weavedesk.specs.declared.ReadbackNumbers.{ReadbackNumbers}
 
@@ -26,8 +25,6 @@ readback_cut n = record {
   third_pitch = n.third_pitch;
 }
 
--- the time that comes with a picture, if there is a picture
-abbrev pub times_in : Paired → List Time
-times_in paired.Waits = []
-times_in (paired.Picture at) = at ∷ []
-times_in (paired.Refused n) = []
+-- what a push is judged by before the weaver takes it: its codes, its shapes and the state's length
+abbrev pub first_tests : Bool → Field → ℕ → List (ℕ × Bool)
+first_tests named f state = (3, named) ∷ (4, good_field f) ∷ (5, chroma_fits f) ∷ (6, leb state_bytes state) ∷ []

@@ -1,13 +1,11 @@
 -- What the exported calls on a weaver give, each part by its name: the number, and what each lent place then holds. Contracts and histories cite the
 -- same definitions.
-use Rattle.std.specs.Prelude.{ℕ, Bool, cond, ◌&&◌, List, [], ◌∷◌, leb, eqb, ℤ, pos, length}
-use Rattle.laws.specs.Lent.{Slice}
+use Rattle.std.specs.Prelude.{ℕ, Bool, cond, ◌&&◌, List, [], ◌∷◌, leb, eqb, ℤ, pos, length, Option, None, Some}
+use Rattle.laws.specs.Lent.{Slice, Output}
 use Rattle.laws.specs.Refusal.{lowest, written}
 use Rattle.field.specs.declared.Parity.{Parity}
 use Rattle.field.specs.Field.{parity_named}
-use Rattle.weave.specs.Weave.{Given, given_of, good_field, chroma_fits, whole, room_for, Output}
-use Rattle.weaver.specs.declared.Time.{Time}
-use Rattle.weaver.specs.declared.Time.TheVariants as time
+use Rattle.weave.specs.Weave.{Given, given_of, good_field, chroma_fits, whole, room_for}
 use Rattle.weaver.specs.declared.Weaver.{Weaver}
 use Rattle.weaver.specs.Weaver.{empty_weaver, fits, field_bytes, kept_bytes, picture_times, picture_luma, picture_cb, picture_cr, push_weaver, push_store, push_out}
 use Rattle.weavedesk.specs.declared.FieldNumbers.{FieldNumbers}
@@ -81,10 +79,10 @@ abbrev pub parity_in : Offer → Parity
 parity_in o = parity_named o.parity
 
 -- where `timed` is 0 there is no time
-abbrev pub time_named : ℕ → ℤ → Time
-time_named timed at = cond (eqb timed 0) time.Absent (time.At at)
+abbrev pub time_named : ℕ → ℤ → Option ℤ
+time_named timed at = cond (eqb timed 0) None (Some at)
 
-abbrev pub time_in : Offer → Time
+abbrev pub time_in : Offer → Option ℤ
 time_in o = time_named o.timed o.time
 
 abbrev pub weaver_of : Lent → Weaver
@@ -133,23 +131,23 @@ abbrev pub cr_after : ℕ → Lent → Offer → List ℕ → List ℕ
 cr_after number l o out = push_out number (weaver_of l) (field_named o.shape) (parity_in o) (picture_cr (weaver_of l) l.store (given o)) out
 
 -- the time that comes with the picture, if there is a picture
-abbrev pub times_given : Lent → Offer → List Time
+abbrev pub times_given : Lent → Offer → List (Option ℤ)
 times_given l o = picture_times (weaver_of l) (field_named o.shape) (parity_in o)
 
 -- whether there is a picture, whether its earlier field had a time, and that time, else 0
-abbrev pub picture_number : List Time → ℕ
+abbrev pub picture_number : List (Option ℤ) → ℕ
 picture_number [] = 0
 picture_number (at ∷ more) = 1
 
-abbrev pub timed_number : List Time → ℕ
+abbrev pub timed_number : List (Option ℤ) → ℕ
 timed_number [] = 0
-timed_number (time.Absent ∷ more) = 0
-timed_number (time.At at ∷ more) = 1
+timed_number (None ∷ more) = 0
+timed_number (Some at ∷ more) = 1
 
-abbrev pub time_number : List Time → ℤ
+abbrev pub time_number : List (Option ℤ) → ℤ
 time_number [] = pos 0
-time_number (time.Absent ∷ more) = pos 0
-time_number (time.At at ∷ more) = at
+time_number (None ∷ more) = pos 0
+time_number (Some at ∷ more) = at
 
 abbrev pub picture_after : ℕ → Lent → Offer → ℕ → ℕ
 picture_after number l o old = written number (picture_number (times_given l o)) old

@@ -1,11 +1,9 @@
 -- A weaver kept in lent bytes between calls: 7 numbers of eight bytes. Every list of bytes is some weaver, so that no call has to trust what it is
 -- lent.
-use Rattle.std.specs.Prelude.{ℕ, ◌%◌, ◌^◌, cond, List, [], ◌∷◌, eqb, ℤ, pos, negsuc}
+use Rattle.std.specs.Prelude.{ℕ, ◌%◌, ◌^◌, cond, List, [], ◌∷◌, eqb, ℤ, pos, negsuc, Option, None, Some}
 use Rattle.laws.specs.Rows.{over}
 use Rattle.field.specs.Field.{first_row_of, parity_named}
 use Rattle.packed.specs.Packed.{packed_of, number_at}
-use Rattle.weaver.specs.declared.Time.{Time}
-use Rattle.weaver.specs.declared.Time.TheVariants as time
 use Rattle.weaver.specs.declared.Weaver.{Weaver}
 use Rattle.weavedesk.specs.Woven.{flag_named, flag_number}
 
@@ -24,16 +22,16 @@ abbrev pub whole_size : ℤ → ℕ
 whole_size (pos n) = n
 whole_size (negsuc n) = n
 
-abbrev pub time_kind : Time → ℕ
-time_kind time.Absent = 0
-time_kind (time.At at) = whole_kind at
+abbrev pub time_kind : Option ℤ → ℕ
+time_kind None = 0
+time_kind (Some at) = whole_kind at
 
-abbrev pub time_size : Time → ℕ
-time_size time.Absent = 0
-time_size (time.At at) = whole_size at
+abbrev pub time_size : Option ℤ → ℕ
+time_size None = 0
+time_size (Some at) = whole_size at
 
-abbrev pub time_of : ℕ → ℕ → Time
-time_of kind size = cond (eqb kind 0) time.Absent (time.At (cond (eqb kind 1) (pos (size % 2 ^ 63)) (negsuc (size % 2 ^ 63))))
+abbrev pub time_of : ℕ → ℕ → Option ℤ
+time_of kind size = cond (eqb kind 0) None (Some (cond (eqb kind 1) (pos (size % 2 ^ 63)) (negsuc (size % 2 ^ 63))))
 
 -- ---- the state
 

@@ -6,24 +6,27 @@
 #![tactic(auto)]
 
 ghost use Rattle.std.specs.Prelude.{◌≡◌, [], ◌∷◌, ◌≤◌, length};
-ghost use Rattle.laws.specs.Refusal.{written};
+ghost use Rattle.laws.specs.Refusal.{lowest, written};
 ghost use Rattle.numbers.specs.Numbers.{grid_named};
 ghost use Rattle.weave.specs.Weave.{lent_field, weave_no_of, woven_after, line_no, woven_format};
 ghost use Rattle.readback.specs.Readback.{luma_shape, cb_shape, cr_shape, cr_bytes_of, sizes_of, sizes_no_of, readback_no_of, copied_after};
-ghost use Rattle.weaver.specs.Weaver.{paired_no};
-ghost use Rattle.weavedesk.specs.Woven.{field_named, line_out_no, line_after, format_named, format_numbers, readback_named, flag_named, flag_number};
+ghost use Rattle.weaver.specs.Weaver.{times_of};
+ghost use Rattle.refusal.specs.Refusal.{no_of};
+ghost use Rattle.weavedesk.specs.Woven.{field_named, line_out_no, line_after, format_named, format_numbers, readback_named};
 ghost use Rattle.weavedesk.specs.Waiting.{keeping, weaver_in, weaver_numbers, time_of, whole_kind, whole_size, time_kind, time_size};
 ghost use Rattle.weavedesk.specs.Push.{lent, offer, new_no, clear_no, emptied, time_named, push_no, state_after, store_after, luma_after, cb_after, cr_after, picture_number, timed_number, time_number, picture_after, timed_after, time_after};
-ghost use Rattle.weavedesk.specs.Inner.{field_cut, readback_cut, times_in};
+ghost use Rattle.weavedesk.specs.Inner.{field_cut, readback_cut, first_tests};
 
 use field::Parity;
 use numbers::GridNumbers;
-use readback::Needed;
-use weaver::{Paired, Time, Weaver};
+use readback::Readback;
+use refusal::Refusal;
+use weave::{Field, Format};
+use weaver::{Paired, Weaver};
 
 // The three planes of a field, which has at most 2,176 lines.
 #[repr(C)]
-#[derive(Clone, Copy)]
+#[derive(Clone, Copy, Debug, PartialEq, Eq)]
 pub struct FieldNumbers {
     pub luma: GridNumbers,
     pub cb: GridNumbers,
@@ -32,7 +35,7 @@ pub struct FieldNumbers {
 
 // What is said of a stream's pictures. The last three are 0 or 1.
 #[repr(C)]
-#[derive(Clone, Copy)]
+#[derive(Clone, Copy, Debug, PartialEq, Eq)]
 pub struct FormatNumbers {
     pub width: u32,
     pub height: u32,
@@ -47,7 +50,7 @@ pub struct FormatNumbers {
 // What was read back: how many planes, the frame's size and depth, and each plane's bytes from one row
 // to the next.
 #[repr(C)]
-#[derive(Clone, Copy)]
+#[derive(Clone, Copy, Debug, PartialEq, Eq)]
 pub struct ReadbackNumbers {
     // 2 where the chroma components share a plane, or 3.
     pub planes: u32,
@@ -60,80 +63,58 @@ pub struct ReadbackNumbers {
 }
 
 // Numbers narrowed for the crates beneath. One that is too large for its place becomes the largest
-// there, which is out of bounds too, so that it is refused all the same.
-fn field_cut(n: FieldNumbers) -> weave::Field
+// there, which is out of bounds too, so that it is refused all the same: no `From`, which loses nothing.
+fn field_cut(n: FieldNumbers) -> Field
     ensures { result ≡ field_cut n }
 {
-    let luma = numbers::grid_named(n.luma);
-    let cb = numbers::grid_named(n.cb);
-    let cr = numbers::grid_named(n.cr);
-    weave::Field {
-        luma: luma,
-        cb: cb,
-        cr: cr,
+    Field {
+        luma: numbers::grid_named(n.luma),
+        cb: numbers::grid_named(n.cb),
+        cr: numbers::grid_named(n.cr),
     }
 }
 
-fn flag_named(n: u32) -> bool
-    ensures { result ≡ flag_named n }
-{
-    n != 0
-}
-
-fn flag_number(flag: bool) -> u32
-    ensures { result ≡ flag_number flag }
-{
-    if flag { 1 } else { 0 }
-}
-
-fn format_named(n: FormatNumbers) -> weave::Format
+// Each flag other than 0 counts as 1.
+fn format_named(n: FormatNumbers) -> Format
     ensures { result ≡ format_named n }
 {
-    let fields = flag_named(n.field_pictures);
-    let progressive = flag_named(n.progressive);
-    let woven = flag_named(n.woven);
-    weave::Format {
+    Format {
         width: n.width,
         height: n.height,
         depth: n.depth,
         rate_numerator: n.rate_numerator,
         rate_denominator: n.rate_denominator,
-        field_pictures: fields,
-        progressive: progressive,
-        woven: woven,
+        field_pictures: n.field_pictures != 0,
+        progressive: n.progressive != 0,
+        woven: n.woven != 0,
     }
 }
 
-fn format_numbers(f: weave::Format) -> FormatNumbers
-    ensures { result ≡ format_numbers f }
-{
-    let fields = flag_number(f.field_pictures);
-    let progressive = flag_number(f.progressive);
-    let woven = flag_number(f.woven);
-    FormatNumbers {
-        width: f.width,
-        height: f.height,
-        depth: f.depth,
-        rate_numerator: f.rate_numerator,
-        rate_denominator: f.rate_denominator,
-        field_pictures: fields,
-        progressive: progressive,
-        woven: woven,
+impl From<Format> for FormatNumbers {
+    ghost from_gives = { λ format n. n ≡ format_numbers format };
+
+    fn from(format: Format) -> FormatNumbers {
+        FormatNumbers {
+            width: format.width,
+            height: format.height,
+            depth: format.depth,
+            rate_numerator: format.rate_numerator,
+            rate_denominator: format.rate_denominator,
+            field_pictures: u32::from(format.field_pictures),
+            progressive: u32::from(format.progressive),
+            woven: u32::from(format.woven),
+        }
     }
 }
 
-fn readback_cut(n: ReadbackNumbers) -> readback::Readback
+fn readback_cut(n: ReadbackNumbers) -> Readback
     ensures { result ≡ readback_cut n }
 {
-    let planes = numbers::at_most_255(n.planes);
-    let width = numbers::at_most_65535(n.width);
-    let height = numbers::at_most_65535(n.height);
-    let depth = numbers::at_most_255(n.depth);
-    readback::Readback {
-        planes: planes,
-        width: width,
-        height: height,
-        depth: depth,
+    Readback {
+        planes: numbers::at_most_255(n.planes),
+        width: numbers::at_most_65535(n.width),
+        height: numbers::at_most_65535(n.height),
+        depth: numbers::at_most_255(n.depth),
         luma_pitch: n.luma_pitch,
         second_pitch: n.second_pitch,
         third_pitch: n.third_pitch,
@@ -144,17 +125,14 @@ fn readback_cut(n: ReadbackNumbers) -> readback::Readback
 
 const STATE_BYTES: usize = 56;
 
-fn time_in(kind: u64, size: u64) -> Time
+fn time_in(kind: u64, size: u64) -> Option<i64>
     ensures { result ≡ time_of kind size }
 {
-    if kind == 0 {
-        return Time::Absent;
-    }
     let n = (size % 9223372036854775808) as i64;
-    if kind == 1 {
-        Time::At(n)
-    } else {
-        Time::At(-n - 1)
+    match kind {
+        0 => None,
+        1 => Some(n),
+        _ => Some(-n - 1),
     }
 }
 
@@ -162,19 +140,13 @@ fn time_in(kind: u64, size: u64) -> Time
 fn weaver_in(state: &[u8]) -> Weaver
     ensures { result ≡ weaver_in state.now }
 {
-    let held = packed::number_at(state, 0) != 0;
-    let width = packed::size_in(packed::number_at(state, 1));
-    let height = packed::size_in(packed::number_at(state, 2));
-    let depth = packed::byte_in(packed::number_at(state, 3));
-    let parity = Parity::named(packed::number_at(state, 4));
-    let time = time_in(packed::number_at(state, 5), packed::number_at(state, 6));
     Weaver {
-        held: held,
-        width: width,
-        height: height,
-        depth: depth,
-        parity: parity,
-        time: time,
+        held: packed::number_at(state, 0) != 0,
+        width: packed::size_in(packed::number_at(state, 1)),
+        height: packed::size_in(packed::number_at(state, 2)),
+        depth: packed::byte_in(packed::number_at(state, 3)),
+        parity: Parity::named(packed::number_at(state, 4)),
+        time: time_in(packed::number_at(state, 5), packed::number_at(state, 6)),
     }
 }
 
@@ -194,111 +166,93 @@ fn whole_size(at: i64) -> u64
     }
 }
 
-fn time_kind(time: Time) -> u64
+fn time_kind(time: Option<i64>) -> u64
     ensures { result ≡ time_kind time }
 {
     match time {
-        Time::Absent => 0,
-        Time::At(at) => whole_kind(at),
+        None => 0,
+        Some(at) => whole_kind(at),
     }
 }
 
-fn time_size(time: Time) -> u64
+fn time_size(time: Option<i64>) -> u64
     ensures { result ≡ time_size time }
 {
     match time {
-        Time::Absent => 0,
-        Time::At(at) => whole_size(at),
+        None => 0,
+        Some(at) => whole_size(at),
     }
 }
 
 fn numbers_of(weaver: Weaver) -> [u64; 7]
     ensures { result ≡ weaver_numbers weaver }
 {
-    let parity = weaver.parity;
-    let time = weaver.time;
-    let held = flag_number(weaver.held);
-    let row = parity.first_row();
-    let kind = time_kind(time);
-    let size = time_size(time);
     [
-        held as u64,
-        weaver.width as u64,
-        weaver.height as u64,
-        weaver.depth as u64,
-        row as u64,
-        kind,
-        size,
+        u64::from(weaver.held),
+        u64::from(weaver.width),
+        u64::from(weaver.height),
+        u64::from(weaver.depth),
+        u64::from(weaver.parity.first_row()),
+        time_kind(weaver.time),
+        time_size(weaver.time),
     ]
 }
 
-// Writes a weaver to a state that is long enough.
+// Writes a weaver to a state that is long enough, which is therefore not refused.
 fn keep(state: &mut [u8], weaver: Weaver)
     requires { 56 ≤ length state.old }
     ensures { state.new ≡ keeping weaver state.old }
 {
-    let numbers = numbers_of(weaver);
-    packed::write_numbers(state, &numbers);
+    let _ = packed::write_numbers(state, &numbers_of(weaver));
 }
 
 // ---- what a push gives
 
-fn time_named(timed: u8, at: i64) -> Time
+fn time_named(timed: u8, at: i64) -> Option<i64>
     ensures { result ≡ time_named timed at }
 {
-    if timed == 0 {
-        Time::Absent
-    } else {
-        Time::At(at)
-    }
+    if timed == 0 { None } else { Some(at) }
 }
 
-fn number_in(answer: Paired) -> u8
-    ensures { result ≡ paired_no answer }
+// What is judged before the weaver takes a field. Numbers 3 to 6.
+#[tactic(auto, unfolding(laws::specs::Refusal::lowest))]
+fn readable(named: bool, field: Field, state: usize) -> Result<(), Refusal>
+    ensures { no_of result ≡ lowest (first_tests named field state) }
 {
-    match answer {
-        Paired::Waits => 0,
-        Paired::Picture(_) => 0,
-        Paired::Refused(no) => no,
-    }
+    Refusal::Outside.unless(named)?;
+    Refusal::Shape.unless(field.is_good())?;
+    Refusal::Differ.unless(field.chroma_fits())?;
+    Refusal::ShortInput.unless(STATE_BYTES <= state)
 }
 
-fn picture_in(answer: Paired) -> u8
-    ensures { result ≡ picture_number (times_in answer) }
+fn picture_in(pair: Paired) -> u8
+    ensures { result ≡ picture_number (times_of pair) }
 {
-    match answer {
+    match pair {
         Paired::Waits => 0,
         Paired::Picture(_) => 1,
-        Paired::Refused(_) => 0,
     }
 }
 
-fn earlier_in(answer: Paired) -> Time
-    ensures { (timed_number (result ∷ []) ≡ timed_number (times_in answer)) × (time_number (result ∷ []) ≡ time_number (times_in answer)) }
+fn earlier_in(pair: Paired) -> Option<i64>
+    ensures { (timed_number (result ∷ []) ≡ timed_number (times_of pair)) × (time_number (result ∷ []) ≡ time_number (times_of pair)) }
 {
-    match answer {
-        Paired::Waits => Time::Absent,
+    match pair {
+        Paired::Waits => None,
         Paired::Picture(at) => at,
-        Paired::Refused(_) => Time::Absent,
     }
 }
 
-fn timed_number(earlier: Time) -> u8
+fn timed_number(earlier: Option<i64>) -> u8
     ensures { result ≡ timed_number (earlier ∷ []) }
 {
-    match earlier {
-        Time::Absent => 0,
-        Time::At(_) => 1,
-    }
+    u8::from(earlier.is_some())
 }
 
-fn time_number(earlier: Time) -> i64
+fn time_number(earlier: Option<i64>) -> i64
     ensures { result ≡ time_number (earlier ∷ []) }
 {
-    match earlier {
-        Time::Absent => 0,
-        Time::At(at) => at,
-    }
+    earlier.unwrap_or(0)
 }
 
 // ---- the calls
@@ -323,7 +277,7 @@ pub extern "C" fn desk_weave(
     ensures out_cb_after { out_cb.new ≡ woven_after result top_cb.now (grid_named top.cb) bottom_cb.now (grid_named bottom.cb) out_cb.old }
     ensures out_cr_after { out_cr.new ≡ woven_after result top_cr.now (grid_named top.cr) bottom_cr.now (grid_named bottom.cr) out_cr.old }
 {
-    weave::weave(
+    refusal::number(weave::weave(
         out_luma,
         out_cb,
         out_cr,
@@ -335,24 +289,24 @@ pub extern "C" fn desk_weave(
         bottom_luma,
         bottom_cb,
         bottom_cr,
-    )
+    ))
 }
 
-// The number of a single line. It is outside by the height as given, which may be too large for its
-// place. Where it is inside, line 0 is too, and the numbers behind 3 are the same of every line.
-fn line_number(
+// A line is outside by the height as given, which may be too large for its place. Where it is inside,
+// line 0 is too, and the numbers behind 3 are the same of every line.
+fn line_fits(
     top: GridNumbers,
     top_bytes: usize,
     bottom: GridNumbers,
     bottom_bytes: usize,
     y: u32,
-) -> u8
-    ensures { result ≡ line_no (grid_named top) top_bytes (grid_named bottom) bottom_bytes y }
+) -> Result<(), Refusal>
+    ensures { no_of result ≡ line_no (grid_named top) top_bytes (grid_named bottom) bottom_bytes y }
 {
-    if (top.height as u64) * 2 <= y as u64 {
-        return refusal::OUTSIDE;
+    if u64::from(top.height) * 2 <= u64::from(y) {
+        return Err(Refusal::Outside);
     }
-    weave::line_no(
+    weave::line_fits(
         numbers::grid_named(top),
         top_bytes,
         numbers::grid_named(bottom),
@@ -373,7 +327,8 @@ pub extern "C" fn desk_line_number(
 ) -> u8
     ensures { result ≡ line_no (grid_named top) top_bytes (grid_named bottom) bottom_bytes y }
 {
-    line_number(top, top_bytes as usize, bottom, bottom_bytes as usize, y)
+    let answer = line_fits(top, top_bytes as usize, bottom, bottom_bytes as usize, y);
+    refusal::number(answer)
 }
 
 // The bytes of a single woven line, copied out, of fields with at most 2,176 lines. Numbers 3 to 7.
@@ -389,9 +344,8 @@ pub extern "C" fn desk_woven_line<'a>(
     ensures value { result ≡ line_out_no top_lines (length top.now) bottom_lines (length bottom.now) y (length out.old) }
     ensures out_after { out.new ≡ line_after result top.now top_lines bottom.now bottom_lines y out.old }
 {
-    let no = line_number(top_lines, top.len(), bottom_lines, bottom.len(), y);
-    if no != 0 {
-        return no;
+    if let Err(refusal) = line_fits(top_lines, top.len(), bottom_lines, bottom.len(), y) {
+        return refusal.number();
     }
     let line = weave::woven_line(
         top,
@@ -401,7 +355,7 @@ pub extern "C" fn desk_woven_line<'a>(
         y,
     );
     if out.len() < line.len() {
-        return refusal::SHORT_OUTPUT;
+        return Refusal::ShortOutput.number();
     }
     copy::copy_front(out, line);
     0
@@ -415,7 +369,7 @@ pub extern "C" fn desk_woven(field: FormatNumbers) -> FormatNumbers
 {
     let named = format_named(field);
     let woven = weave::woven(named);
-    format_numbers(woven)
+    FormatNumbers::from(woven)
 }
 
 // How many bytes each output of `desk_readback_copy` needs for these planes. Of two planes the second
@@ -436,13 +390,13 @@ pub extern "C" fn desk_readback_sizes(
     ensures cr_bytes_after { cr_bytes.new ≡ written result (sizes_of (readback_named about)).cr cr_bytes.old }
 {
     match readback::readback_sizes(readback_cut(about), luma, second, third) {
-        Needed::Value(sizes) => {
+        Ok(sizes) => {
             *luma_bytes = sizes.luma as u64;
             *cb_bytes = sizes.cb as u64;
             *cr_bytes = sizes.cr as u64;
             0
         }
-        Needed::Refused(no) => no,
+        Err(refusal) => refusal.number(),
     }
 }
 
@@ -464,7 +418,7 @@ pub extern "C" fn desk_readback_copy(
     ensures out_cb_after { out_cb.new ≡ copied_after result second.now (cb_shape (readback_named about)) out_cb.old }
     ensures out_cr_after { out_cr.new ≡ copied_after result (cr_bytes_of (readback_named about) second.now third.now) (cr_shape (readback_named about)) out_cr.old }
 {
-    readback::readback_copy(
+    refusal::number(readback::readback_copy(
         out_luma,
         out_cb,
         out_cr,
@@ -472,7 +426,7 @@ pub extern "C" fn desk_readback_copy(
         luma,
         second,
         third,
-    )
+    ))
 }
 
 // A weaver with no field, at the start of `state`. Number 7.
@@ -482,7 +436,7 @@ pub extern "C" fn desk_weaver_new(state: &mut [u8]) -> u8
     ensures state_after { state.new ≡ emptied result state.old }
 {
     if state.len() < STATE_BYTES {
-        return refusal::SHORT_OUTPUT;
+        return Refusal::ShortOutput.number();
     }
     keep(state, Weaver::new());
     0
@@ -495,7 +449,7 @@ pub extern "C" fn desk_weaver_clear(state: &mut [u8]) -> u8
     ensures state_after { state.new ≡ emptied result state.old }
 {
     if state.len() < STATE_BYTES {
-        return refusal::SHORT_INPUT;
+        return Refusal::ShortInput.number();
     }
     let weaver = weaver_in(state);
     let cleared = weaver.clear();
@@ -537,27 +491,8 @@ pub extern "C" fn desk_weaver_push(
 {
     let named = (parity <= 1) & (timed <= 1);
     let given = field_cut(shape);
-    let good = weave::good_field(given);
-    let halved = weave::chroma_fits(given);
-    let refused = refusal::test(
-        refusal::OUTSIDE,
-        named,
-        refusal::test(
-            refusal::SHAPE,
-            good,
-            refusal::test(
-                refusal::DIFFER,
-                halved,
-                refusal::test(
-                    refusal::SHORT_INPUT,
-                    STATE_BYTES <= state.len(),
-                    refusal::DONE,
-                ),
-            ),
-        ),
-    );
-    if refused != 0 {
-        return refused;
+    if let Err(refusal) = readable(named, given, state.len()) {
+        return refusal.number();
     }
     let weaver = weaver_in(state);
     let pushed = weaver.push(
@@ -565,22 +500,20 @@ pub extern "C" fn desk_weaver_push(
         luma,
         cb,
         cr,
-        Parity::named(parity as u64),
+        Parity::named(u64::from(parity)),
         time_named(timed, time),
         store,
         out_luma,
         out_cb,
         out_cr,
     );
-    let after = pushed.weaver;
-    let answer = pushed.answer;
-    let no = number_in(answer);
-    if no != 0 {
-        return no;
-    }
-    keep(state, after);
-    let earlier = earlier_in(answer);
-    *picture = picture_in(answer);
+    let pair = match pushed.answer {
+        Ok(pair) => pair,
+        Err(refusal) => return refusal.number(),
+    };
+    keep(state, pushed.weaver);
+    let earlier = earlier_in(pair);
+    *picture = picture_in(pair);
     *earlier_timed = timed_number(earlier);
     *earlier_time = time_number(earlier);
     0

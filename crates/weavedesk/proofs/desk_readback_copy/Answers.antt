@@ -3,6 +3,7 @@ use mathlib.Core.Path.{◌≡◌, sym, ◌∙◌}
 use lib.ListN.{length}
 use Rattle.laws.specs.Rows.{over}
 use Rattle.laws.proofs.Refusal.{written_alike}
+use Rattle.refusal.specs.Refusal.{no_of}
 use Rattle.readback.specs.Readback.{luma_shape, cb_shape, cr_shape, cr_bytes_of, readback_no, copied_of}
 use Rattle.weavedesk.specs.Woven.{readback_named}
 use Rattle.weavedesk.proofs.Narrowed.{seven, readback_number, readback_same}
@@ -19,13 +20,14 @@ returns c =
     let cr_room = length a.out_cr.now in
     let behind = seven luma_room cb_room cr_room in
     let about = c.readback_cut.ensures in
-    let r = c.readback_copy.result in
+    let r = no_of c.readback_copy.result in
     let number =
     c.readback_copy.ensures.value
     ∙ (λ i. readback_no (about i) luma second third luma_room cb_room cr_room)
     ∙ readback_number a.about luma second third behind in
     let same : r ≡ 0 → c.readback_cut.result ≡ readback_named a.about =
     λ z. about ∙ readback_same a.about luma second third behind (sym number ∙ z) in
+    rw c.number.ensures
     record {
       value = number;
       out_luma_after =

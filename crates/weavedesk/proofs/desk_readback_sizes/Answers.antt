@@ -4,17 +4,18 @@ use mathlib.Core.List.{[], ◌∷◌}
 use lib.ListN.{length}
 use Rattle.laws.specs.Refusal.{when_done}
 use Rattle.laws.proofs.Refusal.{Tells, told_number, told_value, told_nothing, written_alike}
+use Rattle.refusal.specs.Refusal.{no_of, values_of}
 use Rattle.readback.specs.declared.Readback.{Readback}
 use Rattle.readback.specs.declared.Sizes.{Sizes}
-use Rattle.readback.specs.Readback.{sizes_of, needed_no, needed_values, sizes_no}
+use Rattle.readback.specs.Readback.{sizes_of, sizes_no}
 use Rattle.weavedesk.specs.Woven.{readback_named}
 use Rattle.weavedesk.specs.Inner.{readback_cut}
 use Rattle.weavedesk.proofs.Narrowed.{nothing, readback_number, readback_same}
 use Rattle.weavedesk.proofs.desk_readback_sizes.Goals as goal
 
-pub returns-in-Value : goal.returns-in-Value
-returns-in-Value c =
-    let answered : (let a = c.args in Tells needed_no needed_values c.readback_sizes.result (sizes_no (readback_named a.about) (length a.luma.now) (length a.second.now) (length a.third.now)) (sizes_of (readback_named a.about))) = let a = c.args in
+pub returns-in-Ok : goal.returns-in-Ok
+returns-in-Ok c =
+    let answered : (let a = c.args in Tells no_of values_of c.readback_sizes.result (sizes_no (readback_named a.about) (length a.luma.now) (length a.second.now) (length a.third.now)) (sizes_of (readback_named a.about))) = let a = c.args in
     let luma = length a.luma.now in
     let second = length a.second.now in
     let third = length a.third.now in
@@ -30,17 +31,17 @@ returns-in-Value c =
           ∙ written_alike (sizes_no (readback_named a.about) luma second third) [] (λ done. ap (λ (r : Readback). sizes_of r ∷ []) (same done));
     } in
     let h = answered in
-    let same = told_value h c.in-Value.is refl refl in
+    let same = told_value h c.in-Ok.is refl refl in
     record {
-      value = told_number h c.in-Value.is;
+      value = told_number h c.in-Ok.is;
       luma_bytes_after = ap (λ (sizes : Sizes). sizes.luma) same;
       cb_bytes_after = ap (λ (sizes : Sizes). sizes.cb) same;
       cr_bytes_after = ap (λ (sizes : Sizes). sizes.cr) same;
     }
 
-pub returns-in-Refused : goal.returns-in-Refused
-returns-in-Refused c =
-    let answered : (let a = c.args in Tells needed_no needed_values c.readback_sizes.result (sizes_no (readback_named a.about) (length a.luma.now) (length a.second.now) (length a.third.now)) (sizes_of (readback_named a.about))) = let a = c.args in
+pub returns-in-Err : goal.returns-in-Err
+returns-in-Err c =
+    let answered : (let a = c.args in Tells no_of values_of c.readback_sizes.result (sizes_no (readback_named a.about) (length a.luma.now) (length a.second.now) (length a.third.now)) (sizes_of (readback_named a.about))) = let a = c.args in
     let luma = length a.luma.now in
     let second = length a.second.now in
     let third = length a.third.now in
@@ -56,5 +57,6 @@ returns-in-Refused c =
           ∙ written_alike (sizes_no (readback_named a.about) luma second third) [] (λ done. ap (λ (r : Readback). sizes_of r ∷ []) (same done));
     } in
     let h = answered in
-    let kept = told_nothing h c.in-Refused.is refl in
-    record { value = told_number h c.in-Refused.is; luma_bytes_after = kept _ _; cb_bytes_after = kept _ _; cr_bytes_after = kept _ _ }
+    let kept = told_nothing h c.in-Err.is refl in
+    rw c.number.ensures
+    record { value = told_number h c.in-Err.is; luma_bytes_after = kept _ _; cb_bytes_after = kept _ _; cr_bytes_after = kept _ _ }

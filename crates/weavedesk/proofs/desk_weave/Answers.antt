@@ -3,6 +3,7 @@ use mathlib.Core.Path.{◌≡◌, sym, ◌∙◌}
 use lib.ListN.{length}
 use Rattle.laws.specs.Rows.{over}
 use Rattle.laws.proofs.Refusal.{written_alike}
+use Rattle.refusal.specs.Refusal.{no_of}
 use Rattle.weave.specs.Weave.{given_of, weave_no, woven_plane}
 use Rattle.weavedesk.specs.Woven.{field_named}
 use Rattle.weavedesk.proofs.Narrowed.{weave_number, weave_same}
@@ -13,7 +14,7 @@ returns c =
     let a = c.args in
     let top = c.field_cut.ensures in
     let bottom = c.field_cut-2.ensures in
-    let r = c.weave.result in
+    let r = no_of c.weave.result in
     let number =
     c.weave.ensures.value
     ∙ (λ i.
@@ -27,6 +28,7 @@ returns c =
     (length a.out_luma.now) (length a.out_cb.now) (length a.out_cr.now) in
     let upper : r ≡ 0 → c.field_cut.result ≡ field_named a.top = λ z. top ∙ (same (sym number ∙ z)).0 in
     let lower : r ≡ 0 → c.field_cut-2.result ≡ field_named a.bottom = λ z. bottom ∙ (same (sym number ∙ z)).1 in
+    rw c.number.ensures
     record {
       value = number;
       out_luma_after =

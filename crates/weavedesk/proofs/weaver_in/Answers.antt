@@ -10,10 +10,10 @@ pub returns : goal.returns
 unfolding weaver_in
 returns c =
     λ i. record {
-      held = not (eqb (c.number_at-held.ensures i) 0);
-      width = (c.size_in-width.ensures ∙ ap (λ (n : ℕ). n % 65536) c.number_at.ensures) i;
-      height = (c.size_in-height.ensures ∙ ap (λ (n : ℕ). n % 65536) c.number_at-2.ensures) i;
-      depth = (c.byte_in-depth.ensures ∙ ap (λ (n : ℕ). n % 256) c.number_at-3.ensures) i;
-      parity = (c.named-parity.ensures ∙ ap parity_named c.number_at-4.ensures) i;
-      time = (c.time_in-time.ensures ∙ (λ j. time_of (c.number_at-5.ensures j) (c.number_at-6.ensures j))) i;
+      held = not (eqb (c.number_at.ensures i) 0);
+      width = (c.size_in.ensures ∙ ap (λ (n : ℕ). n % 65536) c.number_at-2.ensures) i;
+      height = (c.size_in-2.ensures ∙ ap (λ (n : ℕ). n % 65536) c.number_at-3.ensures) i;
+      depth = (c.byte_in.ensures ∙ ap (λ (n : ℕ). n % 256) c.number_at-4.ensures) i;
+      parity = (c.named.ensures ∙ ap parity_named c.number_at-5.ensures) i;
+      time = (c.time_in.ensures ∙ (λ j. time_of (c.number_at-6.ensures j) (c.number_at-7.ensures j))) i;
     }
