@@ -28,6 +28,15 @@ pub struct Counts {
     pub total: u64,
 }
 
+// A picture, and the store with the frame that it is compared with, which passed the tests of `count`.
+#[derive(Clone, Copy)]
+struct Both<'a> {
+    plane: &'a [u8],
+    grid: Grid,
+    store: &'a [u8],
+    ghost ready: { PictureReady (grid_shape grid) (length plane.now) (length store.now) },
+}
+
 // A part of n bytes.
 fn part_at(bytes: &[u8], start: usize, n: usize) -> &[u8]
     requires { start + n ≤ length bytes.now }
@@ -111,7 +120,7 @@ fn keep_row(to: &mut [u8], plane: &[u8], grid: Grid, y: usize)
 fn differ(a: u8, b: u8) -> u8
     ensures { (result ≡ one_if (differs a b)) × (result ≤ 1) }
 {
-    if 8 < a.abs_diff(b) { 1 } else { 0 }
+    u8::from(8 < a.abs_diff(b))
 }
 
 // How many samples of two parts of a row differ. Sixteen at most, so a byte holds the sum, and the loop
@@ -157,25 +166,18 @@ fn add_row(counters: &mut [u32; 512], new: &[u8], old: &[u8])
 }
 
 // The same of row y of a picture and of the kept frame. Rows of two bytes a sample are kept in `row` first.
-fn add_row_of(
-    counters: &mut [u32; 512],
-    row: &mut [u8],
-    plane: &[u8],
-    grid: Grid,
-    store: &[u8],
-    y: usize,
-)
-    requires { PictureReady (grid_shape grid) (length plane.now) (length store.now) × (y < grid.height) × (length row.old ≡ grid.width) × Counters counters.old grid.width }
+fn add_row_of(counters: &mut [u32; 512], row: &mut [u8], both: Both, y: usize)
+    requires { (y < both.grid.height) × (length row.old ≡ both.grid.width) × Counters counters.old both.grid.width }
     ensures counters_len { length counters.new ≡ 512 }
-    ensures added { Added counters.old counters.new (differing_row plane.now (grid_shape grid) store.now y) (blocks_across grid.width) }
+    ensures added { Added counters.old counters.new (differing_row both.entry.plane.now (grid_shape both.entry.grid) both.entry.store.now y) (blocks_across both.entry.grid.width) }
 {
-    let width = usize::from(grid.width);
-    let old = part_at(store, y * width, width);
-    if grid.depth <= 8 {
-        add_row(counters, byte_row(plane, grid, y), old);
+    let width = usize::from(both.grid.width);
+    let old = part_at(both.store, y * width, width);
+    if both.grid.depth <= 8 {
+        add_row(counters, byte_row(both.plane, both.grid, y), old);
         return;
     }
-    keep_row(row, plane, grid, y);
+    keep_row(row, both.plane, both.grid, y);
     add_row(counters, row, old);
 }
 
@@ -184,11 +186,7 @@ fn busy_if(differing: u32, size: usize) -> u64
     requires { differing ≤ 128 }
     ensures { (result ≡ one_if (ltb size (4 * differing))) × (result ≤ 1) }
 {
-    if size < 4 * (differing as usize) {
-        1
-    } else {
-        0
-    }
+    u64::from(size < 4 * (differing as usize))
 }
 
 // The busy blocks of a band, by its counters.
@@ -205,42 +203,27 @@ fn busy_in(counters: &[u32; 512], width: usize, rows: usize) -> u64
 }
 
 // The busy blocks of the band of a field whose top is its row `top`.
-fn band(
-    row: &mut [u8],
-    plane: &[u8],
-    grid: Grid,
-    store: &[u8],
-    first: usize,
-    top: usize,
-    rows: usize,
-) -> u64
-    requires { PictureReady (grid_shape grid) (length plane.now) (length store.now) × (first ≤ 1) × (top + rows ≤ rows_of grid.height first) × (rows ≤ 8) × (length row.old ≡ grid.width) }
-    ensures { (result ≡ busy_by grid.width rows (λ b. sum_over rows (λ i. band_row plane.now (grid_shape grid) store.now first top i b))) × (result ≤ 512) }
+fn band(row: &mut [u8], both: Both, first: usize, top: usize, rows: usize) -> u64
+    requires { (first ≤ 1) × (top + rows ≤ rows_of both.grid.height first) × (rows ≤ 8) × (length row.old ≡ both.grid.width) }
+    ensures { (result ≡ busy_by both.entry.grid.width rows (λ b. sum_over rows (λ i. band_row both.entry.plane.now (grid_shape both.entry.grid) both.entry.store.now first top i b))) × (result ≤ 512) }
 {
     let mut counters = [0u32; 512];
     for i in 0..rows {
         let y = 2 * (top + i) + first;
-        add_row_of(&mut counters, row, plane, grid, store, y);
+        add_row_of(&mut counters, row, both, y);
     }
-    busy_in(&counters, usize::from(grid.width), rows)
+    busy_in(&counters, usize::from(both.grid.width), rows)
 }
 
 // The busy blocks of a field, whose rows are every second one from `first` on.
-fn busy_rows(
-    row: &mut [u8],
-    plane: &[u8],
-    grid: Grid,
-    store: &[u8],
-    first: usize,
-    rows: usize,
-) -> u64
-    requires { PictureReady (grid_shape grid) (length plane.now) (length store.now) × (first ≤ 1) × (rows ≡ rows_of grid.height first) × (length row.old ≡ grid.width) }
-    ensures { result ≡ busy_field plane.now (grid_shape grid) store.now first }
+fn busy_rows(row: &mut [u8], both: Both, first: usize, rows: usize) -> u64
+    requires { (first ≤ 1) × (rows ≡ rows_of both.grid.height first) × (length row.old ≡ both.grid.width) }
+    ensures { result ≡ busy_field both.entry.plane.now (grid_shape both.entry.grid) both.entry.store.now first }
 {
     let mut busy: u64 = 0;
     for k in 0..bands(rows) {
         let top = 8 * k;
-        busy += band(row, plane, grid, store, first, top, (rows - top).min(8));
+        busy += band(row, both, first, top, (rows - top).min(8));
     }
     busy
 }
@@ -260,17 +243,17 @@ fn total_of(width: u16, rows: usize) -> u64
 }
 
 // The buffer for rows that are kept first is made once.
-fn counts_of(plane: &[u8], grid: Grid, store: &[u8], first: usize) -> Counts
-    requires { PictureReady (grid_shape grid) (length plane.now) (length store.now) × (first ≤ 1) }
-    ensures { result ≡ counts_of plane.now (grid_shape grid) store.now first }
+fn counts_of(both: Both, first: usize) -> Counts
+    requires { first ≤ 1 }
+    ensures { result ≡ counts_of both.entry.plane.now (grid_shape both.entry.grid) both.entry.store.now first }
 {
     let mut row = [0u8; 8192];
-    let width = usize::from(grid.width);
-    let rows = rows_of(grid.height, first);
-    let found = busy_rows(&mut row[0..width], plane, grid, store, first, rows);
+    let width = usize::from(both.grid.width);
+    let rows = rows_of(both.grid.height, first);
+    let found = busy_rows(&mut row[0..width], both, first, rows);
     Counts {
         busy: found,
-        total: total_of(grid.width, rows),
+        total: total_of(both.grid.width, rows),
     }
 }
 
@@ -319,7 +302,8 @@ pub fn count(
     ensures result_value_2 { values_of result ≡ count_values plane.now (grid_shape grid) store.now (first_row_of parity) }
 {
     countable(grid, plane.len(), store.len())?;
-    Ok(counts_of(plane, grid, store, parity.first_row() as usize))
+    let both = Both { plane, grid, store };
+    Ok(counts_of(both, parity.first_row() as usize))
 }
 
 // Each row of a picture, kept behind the one above it.

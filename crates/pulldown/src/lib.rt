@@ -163,71 +163,80 @@ fn still_or_expected(phase: u8, n: u64, symbol: Symbol) -> bool
     (symbol == Symbol::Still) | (symbol == PATTERN[step_of(phase, n)])
 }
 
-// Whether the window agrees with a phase: the newest `held` frames of the ring, the newest of which has
-// number n and stands at `place`.
-fn agrees(ring: &[u8; 15], place: usize, n: u64, held: usize, phase: u8) -> bool
-    requires { (place < 15) × (held ≤ 15) × (phase < 5) }
-    ensures { result ≡ agrees phase (window ring.now place n held) }
-{
-    let mut at = place;
-    let mut number = n;
-    let mut firsts: usize = 0;
-    let mut seconds: usize = 0;
-    let mut moved: usize = 0;
-    for _back in 0..held {
-        let symbol = symbol_of(ring[at]);
-        if !still_or_expected(phase, number, symbol) {
-            return false;
-        }
-        firsts += usize::from(symbol == Symbol::RepeatFirst);
-        seconds += usize::from(symbol == Symbol::RepeatSecond);
-        moved += usize::from(symbol == Symbol::Moved);
-        at = (at + (WINDOW - 1)) % WINDOW;
-        number = number.saturating_sub(1);
-    }
-    (2 <= firsts) & (2 <= seconds) & (4 <= moved)
+// The newest `held` frames of a ring, the newest of which has number n and stands at `place`.
+#[derive(Clone, Copy)]
+struct Newest<'a> {
+    ring: &'a [u8; 15],
+    place: usize,
+    n: u64,
+    held: usize,
+    ghost inside: { place < 15 },
+    ghost few: { held ≤ 15 },
 }
 
-// The phase that the window agrees with. There is one at most, so the first is the only one.
-#[tactic(auto, using(crate::proofs::FirstPhase::first_here, crate::proofs::FirstPhase::first_none), unfolding(crate::specs::Lock::candidate_of))]
-fn candidate(ring: &[u8; 15], place: usize, n: u64, held: usize) -> u8
-    requires { (place < 15) × (held ≤ 15) }
-    ensures { result ≡ candidate_of (window ring.now place n held) }
-{
-    for phase in 0..NO_PHASE {
-        if agrees(ring, place, n, held, phase) {
-            return phase;
+impl<'a> Newest<'a> {
+    // Whether they agree with a phase.
+    fn agrees(self, phase: u8) -> bool
+        requires { phase < 5 }
+        ensures { result ≡ agrees phase (window self.entry.ring.now self.entry.place self.entry.n self.entry.held) }
+    {
+        let mut at = self.place;
+        let mut number = self.n;
+        let mut firsts: usize = 0;
+        let mut seconds: usize = 0;
+        let mut moved: usize = 0;
+        for _back in 0..self.held {
+            let symbol = symbol_of(self.ring[at]);
+            if !still_or_expected(phase, number, symbol) {
+                return false;
+            }
+            firsts += usize::from(symbol == Symbol::RepeatFirst);
+            seconds += usize::from(symbol == Symbol::RepeatSecond);
+            moved += usize::from(symbol == Symbol::Moved);
+            at = (at + (WINDOW - 1)) % WINDOW;
+            number = number.saturating_sub(1);
         }
+        (2 <= firsts) & (2 <= seconds) & (4 <= moved)
     }
-    NO_PHASE
-}
 
-// A phase is locked only at the head of the pattern, so that the first frame that is shown needs no
-// field of the frame before it.
-#[tactic(auto, unfolding(crate::specs::Lock::locked_by))]
-fn locked_by(ring: &[u8; 15], place: usize, n: u64, held: usize) -> u8
-    requires { (place < 15) × (held ≤ 15) }
-    ensures { result ≡ locked_by (window ring.now place n held) n }
-{
-    let phase = candidate(ring, place, n, held);
-    if phase < NO_PHASE && step_of(phase, n) < 2 {
-        phase
-    } else {
+    // The phase that they agree with. There is one at most, so the first is the only one.
+    #[tactic(auto, using(crate::proofs::FirstPhase::first_here, crate::proofs::FirstPhase::first_none), unfolding(crate::specs::Lock::candidate_of))]
+    fn candidate(self) -> u8
+        ensures { result ≡ candidate_of (window self.entry.ring.now self.entry.place self.entry.n self.entry.held) }
+    {
+        for phase in 0..NO_PHASE {
+            if self.agrees(phase) {
+                return phase;
+            }
+        }
         NO_PHASE
     }
-}
 
-// The same as `locked_by`, and sooner where the frames are too few for the repeats and moves that a
-// phase asks.
-#[tactic(auto, using(crate::proofs::Few::few_locked))]
-fn locked_among(ring: &[u8; 15], place: usize, n: u64, held: usize) -> u8
-    requires { (place < 15) × (held ≤ 15) }
-    ensures { result ≡ locked_by (window ring.now place n held) n }
-{
-    if held < LEAST_HELD {
-        NO_PHASE
-    } else {
-        locked_by(ring, place, n, held)
+    // A phase is locked only at the head of the pattern, so that the first frame that is shown needs no
+    // field of the frame before it.
+    #[tactic(auto, unfolding(crate::specs::Lock::locked_by))]
+    fn locked_by(self) -> u8
+        ensures { result ≡ locked_by (window self.entry.ring.now self.entry.place self.entry.n self.entry.held) self.entry.n }
+    {
+        let phase = self.candidate();
+        if phase < NO_PHASE && step_of(phase, self.n) < 2 {
+            phase
+        } else {
+            NO_PHASE
+        }
+    }
+
+    // The same as `locked_by`, and sooner where the frames are too few for the repeats and moves that a
+    // phase asks.
+    #[tactic(auto, using(crate::proofs::Few::few_locked))]
+    fn locked_among(self) -> u8
+        ensures { result ≡ locked_by (window self.entry.ring.now self.entry.place self.entry.n self.entry.held) self.entry.n }
+    {
+        if self.held < LEAST_HELD {
+            NO_PHASE
+        } else {
+            self.locked_by()
+        }
     }
 }
 
@@ -370,7 +379,13 @@ fn take_symbol(ring: &mut [u8; 15], course: Course, symbol: Symbol) -> Course
     if after.phase < NO_PHASE {
         return after;
     }
-    let found = locked_among(ring, course.next, course.taken, after.held);
+    let newest = Newest {
+        ring,
+        place: course.next,
+        n: course.taken,
+        held: after.held,
+    };
+    let found = newest.locked_among();
     Course {
         phase: found,
         ..after

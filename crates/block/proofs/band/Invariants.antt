@@ -10,4 +10,4 @@ use Rattle.block.proofs.band.Given as goal
 abbrev pub invariant-loop-i : goal.invariant-loop-i
 invariant-loop-i l =
     (length l.counters ≡ 512)
-    × Added l.initial.counters l.counters (λ b. sum_over l.i (λ k. band_row l.plane (grid_shape l.grid) l.store l.first l.top k b)) (blocks_across l.grid.width)
+    × Added l.initial.counters l.counters (λ b. sum_over l.i (λ k. band_row l.both.plane.now (grid_shape l.both.grid) l.both.store.now l.first l.top k b)) (blocks_across l.both.grid.width)

@@ -16,11 +16,11 @@ pub loop-k-preserved : goal.loop-k-preserved
 loop-k-preserved c =
     let a = c.args in
     adds c.loop-k.invariant (omega arith) c.band-busy.ensures.1
-    (band_counted a.plane.now (grid_shape a.grid) a.store.now a.first a.rows c.loop-k.k (omega arith) c.band-busy.ensures.0)
+    (band_counted a.both.plane.now (grid_shape a.both.grid) a.both.store.now a.first a.rows c.loop-k.k (omega arith) c.band-busy.ensures.0)
 
 pub returns : goal.returns
 unfolding busy_field busy_of
 returns c =
     let a = c.args in
     ends c.loop-k.invariant (omega arith)
-    ∙ ap (λ (rows : ℕ). sum_over (bands_down rows) (busy_band a.plane.now (grid_shape a.grid) a.store.now a.first rows)) c.requires.2
+    ∙ ap (λ (rows : ℕ). sum_over (bands_down rows) (busy_band a.both.plane.now (grid_shape a.both.grid) a.both.store.now a.first rows)) c.requires.1

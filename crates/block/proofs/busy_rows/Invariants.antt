@@ -7,4 +7,4 @@ use Rattle.block.proofs.busy_rows.Given as goal
 
 abbrev pub invariant-loop-k : goal.invariant-loop-k
 invariant-loop-k l =
-    Summed 512 (busy_band l.plane (grid_shape l.grid) l.store l.first l.rows) (bands_down l.rows) l.busy l.k
+    Summed 512 (busy_band l.both.plane.now (grid_shape l.both.grid) l.both.store.now l.first l.rows) (bands_down l.rows) l.busy l.k

@@ -4,4 +4,4 @@ use Rattle.plane.specs.Plane.{grid_shape}
 use Rattle.block.proofs.counts_of.Goals as goal
 
 pub slice_bounds-row-end : goal.slice_bounds-row-end
-slice_bounds-row-end c = omega (arith, (good_within (grid_shape c.args.grid) c.requires.0.good).width_most)
+slice_bounds-row-end c = omega (arith, (good_within (grid_shape c.args.both.grid) c.args.both.ready.good).width_most)

@@ -2,7 +2,7 @@
 use Prim.Native.Nat.{◌-◌, ◌<◌, ◌≤◌}
 use Rattle.pulldown.specs.Lock.{window}
 use Rattle.pulldown.proofs.Walk.{Walk}
-use Rattle.pulldown.proofs.agrees.Given as goal
+use Rattle.pulldown.proofs.Newest.agrees.Given as goal
 
 abbrev pub invariant-loop-back : goal.invariant-loop-back
 invariant-loop-back l =
@@ -10,4 +10,4 @@ invariant-loop-back l =
     × (l.firsts ≤ l._back)
     × (l.seconds ≤ l._back)
     × (l.moved ≤ l._back)
-    × Walk l.phase (window l.ring l.place l.n l.held) (window l.ring l.at l.number (l.held - l._back)) l.firsts l.seconds l.moved
+    × Walk l.phase (window l.self.ring.now l.self.place l.self.n l.self.held) (window l.self.ring.now l.at l.number (l.self.held - l._back)) l.firsts l.seconds l.moved

@@ -2,7 +2,7 @@
 use mathlib.Core.Path.{sym, ◌∙◌}
 use Rattle.pulldown.specs.Lock.{candidate_of}
 use Rattle.pulldown.proofs.FirstPhase.{first_here}
-use Rattle.pulldown.proofs.candidate.Goals as goal
+use Rattle.pulldown.proofs.Newest.candidate.Goals as goal
 
 pub returns-then-agrees : goal.returns-then-agrees
 unfolding candidate_of
