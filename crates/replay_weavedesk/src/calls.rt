@@ -1,68 +1,118 @@
 // Made by tools/calls from the exports; not to be changed by hand.
-// The calls of crate `weavedesk`, by their numbers in the list.
-use crate::names;
+// The calls of crate `weavedesk`.
 use answers::lent;
+use std::fmt;
 
-// How many there are.
-pub const COUNT: usize = 9;
+// In the order of their numbers in the list.
+#[derive(Clone, Copy, Debug, PartialEq, Eq)]
+pub enum Call {
+    Weave,
+    LineNumber,
+    WovenLine,
+    Woven,
+    ReadbackSizes,
+    ReadbackCopy,
+    WeaverNew,
+    WeaverClear,
+    WeaverPush,
+}
 
-// A call's name at the desk without `desk_`, to standard output.
-pub fn say_name(call: usize) {
-    match call {
-        0 => names::say(b"weave"),
-        1 => names::say(b"line_number"),
-        2 => names::say(b"woven_line"),
-        3 => names::say(b"woven"),
-        4 => names::say(b"readback_sizes"),
-        5 => names::say(b"readback_copy"),
-        6 => names::say(b"weaver_new"),
-        7 => names::say(b"weaver_clear"),
-        _ => names::say(b"weaver_push"),
+impl TryFrom<u64> for Call {
+    // A number of no call.
+    type Error = u64;
+
+    fn try_from(number: u64) -> Result<Call, u64> {
+        match number {
+            0 => Ok(Call::Weave),
+            1 => Ok(Call::LineNumber),
+            2 => Ok(Call::WovenLine),
+            3 => Ok(Call::Woven),
+            4 => Ok(Call::ReadbackSizes),
+            5 => Ok(Call::ReadbackCopy),
+            6 => Ok(Call::WeaverNew),
+            7 => Ok(Call::WeaverClear),
+            8 => Ok(Call::WeaverPush),
+            _ => Err(number),
+        }
+    }
+}
+
+// Its name at the desk without `desk_`.
+impl fmt::Display for Call {
+    fn fmt<W: fmt::Write>(&self, f: &mut fmt::Formatter<W>) -> fmt::Result {
+        f.write_str(match self {
+            Call::Weave => "weave",
+            Call::LineNumber => "line_number",
+            Call::WovenLine => "woven_line",
+            Call::Woven => "woven",
+            Call::ReadbackSizes => "readback_sizes",
+            Call::ReadbackCopy => "readback_copy",
+            Call::WeaverNew => "weaver_new",
+            Call::WeaverClear => "weaver_clear",
+            Call::WeaverPush => "weaver_push",
+        })
+    }
+}
+
+impl Call {
+    // How many there are.
+    pub const COUNT: u64 = 9;
+
+    // Makes the call again, and says whether all of it came as expected. `state` and `store` are lent from record to record.
+    pub fn replayed(self, answer: &[u8], state: &mut [u8], store: &mut [u8]) -> bool {
+        match self {
+            Call::Weave => weave(answer),
+            Call::LineNumber => line_number(answer),
+            Call::WovenLine => woven_line(answer),
+            Call::Woven => woven(answer),
+            Call::ReadbackSizes => readback_sizes(answer),
+            Call::ReadbackCopy => readback_copy(answer),
+            Call::WeaverNew => weaver_new(answer, state),
+            Call::WeaverClear => weaver_clear(answer, state),
+            Call::WeaverPush => weaver_push(answer, state, store),
+        }
     }
 }
 
 fn grid_numbers(answer: &[u8], k: u8) -> numbers::GridNumbers {
     numbers::GridNumbers {
         width: answers::word(answer, k),
-        height: answers::word(answer, std::num::wrapping_add_u8(k, 1)),
-        depth: answers::word(answer, std::num::wrapping_add_u8(k, 2)),
-        stride: answers::word(answer, std::num::wrapping_add_u8(k, 3)),
+        height: answers::word(answer, k.wrapping_add(1)),
+        depth: answers::word(answer, k.wrapping_add(2)),
+        stride: answers::word(answer, k.wrapping_add(3)),
     }
 }
 
 fn field_numbers(answer: &[u8], k: u8) -> weavedesk::FieldNumbers {
-    let luma = grid_numbers(answer, k);
-    let cb = grid_numbers(answer, std::num::wrapping_add_u8(k, 4));
-    let cr = grid_numbers(answer, std::num::wrapping_add_u8(k, 8));
     weavedesk::FieldNumbers {
-        luma: luma,
-        cb: cb,
-        cr: cr,
+        luma: grid_numbers(answer, k),
+        cb: grid_numbers(answer, k.wrapping_add(4)),
+        cr: grid_numbers(answer, k.wrapping_add(8)),
     }
 }
 
 fn format_numbers(answer: &[u8], k: u8) -> weavedesk::FormatNumbers {
     weavedesk::FormatNumbers {
         width: answers::word(answer, k),
-        height: answers::word(answer, std::num::wrapping_add_u8(k, 1)),
-        depth: answers::word(answer, std::num::wrapping_add_u8(k, 2)),
-        rate_numerator: answers::word(answer, std::num::wrapping_add_u8(k, 3)),
-        rate_denominator: answers::word(answer, std::num::wrapping_add_u8(k, 4)),
-        field_pictures: answers::word(answer, std::num::wrapping_add_u8(k, 5)),
-        progressive: answers::word(answer, std::num::wrapping_add_u8(k, 6)),
-        woven: answers::word(answer, std::num::wrapping_add_u8(k, 7)),
+        height: answers::word(answer, k.wrapping_add(1)),
+        depth: answers::word(answer, k.wrapping_add(2)),
+        rate_numerator: answers::word(answer, k.wrapping_add(3)),
+        rate_denominator: answers::word(answer, k.wrapping_add(4)),
+        field_pictures: answers::word(answer, k.wrapping_add(5)),
+        progressive: answers::word(answer, k.wrapping_add(6)),
+        woven: answers::word(answer, k.wrapping_add(7)),
     }
 }
 
 fn readback_numbers(answer: &[u8], k: u8) -> weavedesk::ReadbackNumbers {
     weavedesk::ReadbackNumbers {
         planes: answers::word(answer, k),
-        width: answers::word(answer, std::num::wrapping_add_u8(k, 1)),
-        height: answers::word(answer, std::num::wrapping_add_u8(k, 2)),
-        depth: answers::word(answer, std::num::wrapping_add_u8(k, 3)),
-        luma_pitch: answers::word(answer, std::num::wrapping_add_u8(k, 4)),
-        second_pitch: answers::word(answer, std::num::wrapping_add_u8(k, 5)),
-        third_pitch: answers::word(answer, std::num::wrapping_add_u8(k, 6)),
+        width: answers::word(answer, k.wrapping_add(1)),
+        height: answers::word(answer, k.wrapping_add(2)),
+        depth: answers::word(answer, k.wrapping_add(3)),
+        luma_pitch: answers::word(answer, k.wrapping_add(4)),
+        second_pitch: answers::word(answer, k.wrapping_add(5)),
+        third_pitch: answers::word(answer, k.wrapping_add(6)),
     }
 }
 
@@ -94,13 +144,12 @@ fn weave(answer: &[u8]) -> bool {
     let out_luma_room = answers::room(answers::bytes(answer, 25, 6), 4096);
     let out_cb_room = answers::room(answers::bytes(answer, 25, 7), 4096);
     let out_cr_room = answers::room(answers::bytes(answer, 25, 8), 4096);
-    let gave = weave_to(
+    weave_to(
         answer,
         &mut out_luma[0..out_luma_room],
         &mut out_cb[0..out_cb_room],
         &mut out_cr[0..out_cr_room],
-    );
-    gave
+    )
 }
 
 fn line_number(answer: &[u8]) -> bool {
@@ -131,8 +180,7 @@ fn woven_line_to(answer: &[u8], out: &mut [u8]) -> bool {
 fn woven_line(answer: &[u8]) -> bool {
     let mut out = [lent::BYTE; 4096];
     let out_room = answers::room(answers::bytes(answer, 10, 2), 4096);
-    let gave = woven_line_to(answer, &mut out[0..out_room]);
-    gave
+    woven_line_to(answer, &mut out[0..out_room])
 }
 
 fn woven(answer: &[u8]) -> bool {
@@ -197,13 +245,12 @@ fn readback_copy(answer: &[u8]) -> bool {
     let out_luma_room = answers::room(answers::bytes(answer, 8, 3), 4096);
     let out_cb_room = answers::room(answers::bytes(answer, 8, 4), 4096);
     let out_cr_room = answers::room(answers::bytes(answer, 8, 5), 4096);
-    let gave = readback_copy_to(
+    readback_copy_to(
         answer,
         &mut out_luma[0..out_luma_room],
         &mut out_cb[0..out_cb_room],
         &mut out_cr[0..out_cr_room],
-    );
-    gave
+    )
 }
 
 fn weaver_new(answer: &[u8], state: &mut [u8]) -> bool {
@@ -291,19 +338,4 @@ fn weaver_push(answer: &[u8], state: &mut [u8], store: &mut [u8]) -> bool {
         &mut out_cr[0..out_cr_room],
     );
     answers::whole(answer, 20, 7) & there & gave
-}
-
-// Makes a call again, and says whether all of it came as expected. `state` and `store` are lent from record to record.
-pub fn replayed(call: usize, answer: &[u8], state: &mut [u8], store: &mut [u8]) -> bool {
-    match call {
-        0 => weave(answer),
-        1 => line_number(answer),
-        2 => woven_line(answer),
-        3 => woven(answer),
-        4 => readback_sizes(answer),
-        5 => readback_copy(answer),
-        6 => weaver_new(answer, state),
-        7 => weaver_clear(answer, state),
-        _ => weaver_push(answer, state, store),
-    }
 }
