@@ -12,8 +12,7 @@ mod calls;
 mod list;
 
 use calls::Call;
-use list::Fault;
-use pages::Held;
+use list::{Fault, List, Record};
 use std::io;
 
 // ---- lines
@@ -68,24 +67,22 @@ fn tell_broken(rt: &impl Print, nth: u64, differ: u64, fault: Fault) -> io::Resu
 // ---- the calls
 
 fn run(rt: &impl Print) -> io::Result<()> {
-    let mut buffer = [0u8; 65536];
-    let mut held = Held::nothing();
+    let mut list = List::new();
     let mut state = [165u8; 256];
     let mut store = [165u8; 8192];
     let mut differ: u64 = 0;
     // No list is as long as is counted up to here.
     for nth in 1..u64::MAX {
-        let record = match list::take(held, &mut buffer) {
-            Ok(Some(record)) => record,
+        match list.take() {
+            Ok(Some(Record { call, answer })) => {
+                if !call.replayed(answer, &mut state, &mut store) {
+                    println!(rt; "differs: {call}, record {nth}")?;
+                    differ = differ.saturating_add(1);
+                }
+            }
             Ok(None) => return tell_end(rt, nth, differ),
             Err(fault) => return tell_broken(rt, nth, differ, fault),
-        };
-        let answer = record.held.unit(&buffer, record.size);
-        if !record.call.replayed(answer, &mut state, &mut store) {
-            println!(rt; "differs: {}, record {nth}", record.call)?;
-            differ = differ.saturating_add(1);
         }
-        held = record.held.without(record.size);
     }
     Ok(())
 }

@@ -4,64 +4,77 @@
 use crate::calls::Call;
 use pages::{Ask, Held};
 
-// A record, which stands in front of what is held.
+// The bytes of a record's head, and of the longest record.
+const HEAD: usize = 32;
+
+const LONGEST: usize = 65536;
+
+// What was read of the list, and what of that is not yet used.
+#[derive(Drop)]
+pub struct List {
+    buffer: [u8; LONGEST],
+    held: Held,
+}
+
 #[derive(Clone, Copy)]
-pub struct Record {
+pub struct Record<'a> {
     pub call: Call,
-    pub held: Held,
-    pub size: usize,
+    pub answer: &'a [u8],
 }
 
 // Why a list cannot be read on.
 #[derive(Clone, Copy, Debug, PartialEq, Eq)]
 pub enum Fault {
     // It ends inside a record of this size.
-    Cut { size: u64, came: usize },
+    Cut { size: usize, came: usize },
     // A record has a size, by its head, that none has.
     Size(u64),
     // A record names no call.
     Call(u64),
 }
 
-// Reads into the buffer from a place on, until it is full or the list ends, and answers how many bytes came.
-fn read(buffer: &mut [u8], from: usize) -> usize {
-    let start = from.min(buffer.len());
-    io::read_full(0, &mut buffer[start..])
-}
-
-// What is held once n bytes are, or all that is left of the list. A buffer of n bytes has room for them.
-fn hold(held: Held, buffer: &mut [u8], n: usize) -> Held {
-    match pages::next(held.count(buffer), false, n, 0, 0, 0) {
-        Ask::Read(from) => {
-            let front = held.front(buffer);
-            let came = read(buffer, from);
-            front.came(buffer, came)
+impl List {
+    pub fn new() -> List {
+        List {
+            buffer: [0; LONGEST],
+            held: Held::nothing(),
         }
-        _ => held,
     }
-}
 
-// Takes the next record from what is left in the buffer and what is left of the list, which may end here. Its head says its size.
-pub fn take(left: Held, buffer: &mut [u8]) -> Result<Option<Record>, Fault> {
-    let head = hold(left, buffer, 32);
-    let came = head.count(buffer);
-    if came == 0 {
-        return Ok(None);
+    // Reads until n bytes are held, or all that is left of the list, and answers how many are.
+    fn hold(&mut self, n: usize) -> usize {
+        let have = self.held.count(&self.buffer);
+        if let Ask::Read(from) = pages::next(have, false, n, 0, 0, 0) {
+            self.held = self.held.front(&mut self.buffer);
+            let start = from.min(LONGEST);
+            let came = io::read_full(0, &mut self.buffer[start..]);
+            self.held = self.held.came(&self.buffer, came);
+        }
+        self.held.count(&self.buffer)
     }
-    if came < 32 {
-        return Err(Fault::Cut { size: 32, came });
+
+    // Takes the next record, whose head says its size. The list may end here, with none.
+    pub fn take(&mut self) -> Result<Option<Record<'_>>, Fault> {
+        let came = self.hold(HEAD);
+        if came == 0 {
+            return Ok(None);
+        }
+        if came < HEAD {
+            return Err(Fault::Cut { size: HEAD, came });
+        }
+        let size = packed::number_at(self.held.unit(&self.buffer, HEAD), 0);
+        if !(HEAD as u64..=LONGEST as u64).contains(&size) {
+            return Err(Fault::Size(size));
+        }
+        let size = size as usize;
+        let came = self.hold(size);
+        if came < size {
+            return Err(Fault::Cut { size, came });
+        }
+        let held = self.held;
+        self.held = held.without(size);
+        let answer = held.unit(&self.buffer, size);
+        let call = Call::try_from(packed::number_at(answer, 1)).map_err(Fault::Call)?;
+        Ok(Some(Record { call, answer }))
     }
-    let size = packed::number_at(head.unit(buffer, 32), 0);
-    if (size < 32) | (65536 < size) {
-        return Err(Fault::Size(size));
-    }
-    let held = hold(head, buffer, size as usize);
-    let came = held.count(buffer);
-    if came < size as usize {
-        return Err(Fault::Cut { size, came });
-    }
-    let size = size as usize;
-    let number = packed::number_at(held.unit(buffer, size), 1);
-    let call = Call::try_from(number).map_err(Fault::Call)?;
-    Ok(Some(Record { call, held, size }))
 }
