@@ -88,7 +88,7 @@ impl<'a, P: Print> Bench<'a, P> {
         self.tell(name, &text[..n])
     }
 
-    fn tell_cadence(&mut self, name: &str, came: Result<Cadence, Refusal>) -> Told {
+    fn tell_answer(&mut self, name: &str, came: Result<Cadence, Refusal>) -> Told {
         self.tell(name, came.map_or(REFUSED, cadence_word))
     }
 
@@ -103,7 +103,7 @@ impl<'a, P: Print> Bench<'a, P> {
 // ---- the detector
 
 // What is left after some stills, and after how many of them there was a lock.
-#[derive(Clone, Copy)]
+#[derive(Clone, Copy, Debug, PartialEq, Eq)]
 struct Stills {
     detector: Detector,
     kept: u64,
@@ -171,9 +171,9 @@ fn after_stills(n: u64) -> Stills
 impl<P: Print> Bench<'_, P> {
     fn ahead_cards(&mut self) -> Told {
         let detector = after_entry_9();
-        self.tell_cadence("after entry 9, ahead 0", detector.predict(0))?;
-        self.tell_cadence("after entry 9, ahead 4", detector.predict(4))?;
-        self.tell_cadence("after entry 9, ahead 6", detector.predict(6))
+        self.tell_answer("after entry 9, ahead 0", detector.predict(0))?;
+        self.tell_answer("after entry 9, ahead 4", detector.predict(4))?;
+        self.tell_answer("after entry 9, ahead 6", detector.predict(6))
     }
 
     fn still_cards(&mut self) -> Told {
@@ -184,7 +184,7 @@ impl<P: Print> Bench<'_, P> {
         let twelfth = after_stills(11)
             .detector
             .push_measured(Parity::Top, busy(0, 0));
-        self.tell_cadence("the twelfth still", twelfth.answer)
+        self.tell_answer("the twelfth still", twelfth.answer)
     }
 }
 
@@ -279,21 +279,17 @@ impl<P: Print> Bench<'_, P> {
 
 // ---- symbols
 
-fn first_repeats(first: u64, blocks: u64, second: u64) -> bool {
-    pulldown::classify_counts(first, blocks, second) == Symbol::RepeatFirst
-}
-
 // The least count of the second field with which the first, itself at 0, repeats.
 fn moving_of(blocks: u64) -> u64 {
     (0..blocks)
-        .find(|n| first_repeats(0, blocks, *n))
+        .find(|n| pulldown::classify_counts(0, blocks, *n) == Symbol::RepeatFirst)
         .unwrap_or(blocks)
 }
 
 // The largest count of the first field with which it repeats where all of the second are busy.
 fn quiet_of(blocks: u64) -> u64 {
     for n in 0..blocks {
-        if !first_repeats(n + 1, blocks, blocks) {
+        if pulldown::classify_counts(n + 1, blocks, blocks) != Symbol::RepeatFirst {
             return n;
         }
     }

@@ -14,7 +14,7 @@ pub struct List {
     held: Held,
 }
 
-#[derive(Clone, Copy)]
+#[derive(Clone, Copy, Debug, PartialEq, Eq)]
 pub struct Record<'a> {
     pub call: Call,
     pub answer: &'a [u8],
