@@ -8,10 +8,9 @@ use Rattle.laws.proofs.Claims.{lowest_says}
 use Rattle.laws.proofs.Sums.{same_terms, sum_at_most}
 use Rattle.plane.specs.Plane.{unshifted, full_code, code_of}
 use Rattle.plane.proofs.Claims.{code_within_depth}
-use Rattle.comb.specs.declared.Combed.TheVariants.{Value, Refused}
 use Rattle.comb.specs.Comb.{bend_of, comb_of, plane_comb}
 use Rattle.comb.specs.Answer.{comb_tests, rgba_tests}
-use Rattle.comb.specs.Claims.{CombSays, RgbaSays, OneCombed, CombWithin, CodesSettle, NoInnerRow}
+use Rattle.comb.specs.Claims.{CombSays, RgbaSays, CombWithin, CodesSettle, NoInnerRow}
 use Rattle.comb.proofs.Rows.{same_bend}
 use Rattle.comb.proofs.Columns.{bend_at_most}
 
@@ -22,12 +21,6 @@ comb_says width height depth stride bytes = lowest_says (comb_tests width height
 pub rgba_says : RgbaSays
 unfolding rising
 rgba_says width height bytes = lowest_says (rgba_tests width height bytes) tt
-
-pub one_combed : OneCombed
-one_combed (Value total) (Value other) numbers values = cc
-one_combed (Value total) (Refused n) numbers values = cc
-one_combed (Refused n) (Value total) numbers values = cc
-one_combed (Refused n) (Refused m) numbers values = cc
 
 pub comb_within : CombWithin
 unfolding plane_comb comb_of

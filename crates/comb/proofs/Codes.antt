@@ -44,28 +44,28 @@ size_of_sample width full true low = omega arith
 size_of_sample width full false true = omega arith
 size_of_sample width full false false = omega arith
 
-module _ (width height depth stride bytes : ℕ) {no : ℕ} (e : no ≡ comb_no width height depth stride bytes) (done : no ≡ 0) where
+module _ (width height depth stride bytes : ℕ) (done : 0 ≡ comb_no width height depth stride bytes) where
   pub plane_narrow : width ≤ 8192
   unfolding good_shape
-  plane_narrow = narrow width height (left _ _ (left _ _ (left _ _ (left _ _ (passed _ _ (sym e ∙ done)).0))))
+  plane_narrow = narrow width height (left _ _ (left _ _ (left _ _ (left _ _ (passed _ _ (sym done)).0))))
 
   pub plane_long : {kind : Kind} → kind ≡ kind_of depth → (height - 1) * stride + width * size_of kind ≤ bytes
   plane_long k =
-      let long : plane_bytes (unshifted width height depth stride) ≤ bytes = leb-true _ _ (passed _ _ (sym e ∙ done)).1 in
+      let long : plane_bytes (unshifted width height depth stride) ≤ bytes = leb-true _ _ (passed _ _ (sym done)).1 in
       rw k (omega (arith, size_of_sample width (full_code depth) (leb depth 8) (ltb depth 16)))
 
 -- ---- `comb_rgba`: the same
 rows_of : (height row : ℕ) → 1 ≤ height → (height - 1) * row + row ≡ height * row
 rows_of height row h = sym (suc-mul (height - 1) row) ∙ ap (λ (n : ℕ). n * row) (omega arith)
 
-module _ (width height bytes : ℕ) {no : ℕ} (e : no ≡ rgba_no width height bytes) (done : no ≡ 0) where
+module _ (width height bytes : ℕ) (done : 0 ≡ rgba_no width height bytes) where
   pub rgba_narrow : width ≤ 8192
-  rgba_narrow = narrow width height (passed _ _ (sym e ∙ done)).0
+  rgba_narrow = narrow width height (passed _ _ (sym done)).0
 
   pub rgba_long : (height - 1) * (width * 4) + width * 4 ≤ bytes
   rgba_long =
-      let long : height * width * 4 ≤ bytes = leb-true _ _ (passed _ _ (sym e ∙ done)).1 in
-      omega (arith, rows_of height (width * 4) (tall width height (passed _ _ (sym e ∙ done)).0), mul_assoc height width 4)
+      let long : height * width * 4 ≤ bytes = leb-true _ _ (passed _ _ (sym done)).1 in
+      omega (arith, rows_of height (width * 4) (tall width height (passed _ _ (sym done)).0), mul_assoc height width 4)
 
 -- ---- codes, of every column and row: past the end both sides are 0
 -- rows of one or two bytes a sample, by their bytes

@@ -1,19 +1,16 @@
--- Laws of columns: what a tile adds to them, and that a tally is the sum of what went into it.
-use Prim.Native.Nat.{ℕ, zero, suc, ◌+◌, ◌-◌, ◌*◌, ◌^◌, ◌≤◌, ◌<◌}
+-- Laws of tallies: what a tile adds to one, and that it is the sum of what went into it.
+use Prim.Native.Nat.{ℕ, zero, suc, ◌+◌, ◌*◌, ◌^◌, ◌≤◌, ◌<◌}
 use mathlib.Core.Path.{◌≡◌, refl, sym, ap, ◌∙◌}
-use mathlib.Core.List.{List, ◌++◌}
-use native.Mathlib.Decide.{dec_lt}
+use mathlib.Core.List.{List}
+use native.Mathlib.Decide.{ℕ_discrete}
 use native.Mathlib.Nat.{le_antisymm}
 use native.Mathlib.Omega.{arith}
-use lib.ListN.{length, get_or, take, drop, replicate, length-append, length-drop, length-take, length-replicate, get_or-append, get_or-eq_default}
-use lib.Seq.{get_or-take, get_or-drop, get_or-append-add, length-take-le}
-use Rattle.laws.specs.Rows.{listed}
+use lib.ListN.{length, get_or, set, replicate}
+use lib.Seq.{get_or-set_same, get_or-set_other}
 use Rattle.laws.specs.Sums.{sum_over, apart}
-use Rattle.laws.proofs.Lists.{length_listed, listed_at}
-use Rattle.laws.proofs.Sums.{same_terms, sum_parts, sum_of_both, sum_at_most, sum_of_zeros, Summed, adds}
+use Rattle.laws.proofs.Sums.{same_terms, one_more, sum_at_most, sum_of_zeros, Summed, adds}
 use Rattle.comb.specs.declared.Kind.TheVariants.{Cut}
-use Rattle.comb.specs.declared.Tally.{Tally}
-use Rattle.comb.specs.Rows.{code_in, bend_in, Rows, in_all, AllUpTo, Bounded, Grown}
+use Rattle.comb.specs.Rows.{code_in, bend_in, Rows}
 
 -- ---- how large bends are
 -- a bend of codes none of which is above `full`
@@ -33,157 +30,71 @@ cut_row_fits full up here down width x r w =
     sum_at_most x 65535 (bend_in (Cut full) up here down) (λ k l. omega (arith, cut_bend_at_most full up here down k, r.low)) in
     omega (arith, all, r.narrow)
 
--- ---- columns that are all 0
-none_bounded : (columns : List ℕ) (t : Tally) → length columns ≡ 256 → ((x : ℕ) → get_or columns x 0 ≡ 0) → t.most ≡ 0 → Bounded columns t
-none_bounded columns t long zeros none = record { long = long; up_to = λ x. omega (arith, zeros x); fits = omega arith }
-
-none_in_all : (columns : List ℕ) (t : Tally) → ((x : ℕ) → get_or columns x 0 ≡ 0) → in_all columns t ≡ t.total
-none_in_all columns t zeros = omega (arith, sum_of_zeros 256 (λ x. get_or columns x 0) (λ x l. zeros x))
-
-fresh_at : (n x : ℕ) → ◌≡◌ {A = ℕ} (get_or (replicate n 0) x 0) 0
+-- ---- columns
+-- ones that are all 0
+pub fresh_at : (n x : ℕ) → ◌≡◌ {A = ℕ} (get_or (replicate n 0) x 0) 0
 fresh_at zero x = refl
 fresh_at (suc n) zero = refl
 fresh_at (suc n) (suc x) = fresh_at n x
 
-cleared_at : (n x : ℕ) → ◌≡◌ {A = ℕ} (get_or (listed n (λ _. 0)) x 0) 0
-cleared_at n x = at (dec_lt x n)
-  where
-    at : Dec (x < n) → ◌≡◌ {A = ℕ} (get_or (listed n (λ _. 0)) x 0) 0
-    at (yes l) = listed_at n (λ _. 0) x 0 l
-    at (no l) = get_or-eq_default (listed n (λ _. 0)) 0 (rw (length_listed {A = ℕ} n (λ _. 0)) (omega (arith, l)))
+pub zeros_of : (n : ℕ) {columns : List ℕ} → columns ≡ replicate n 0 → (x : ℕ) → get_or columns x 0 ≡ 0
+zeros_of n e x = ap (λ (l : List ℕ). get_or l x 0) e ∙ fresh_at n x
 
--- the columns went into the total, and are 0
-pub moved :
-    {old new : List ℕ} {t : Tally} {sum : ℕ} →
-    Bounded old t → sum ≡ sum_over 256 (λ x. get_or old x 0) → new ≡ listed (length old) (λ _. 0) →
-    Bounded new (record { total = t.total + sum; most = 0 }) × (in_all new (record { total = t.total + sum; most = 0 }) ≡ in_all old t)
-moved {old} {new} {t} {sum} h s e =
-    let zeros : (x : ℕ) → get_or new x 0 ≡ 0 = λ x. ap (λ (l : List ℕ). get_or l x 0) e ∙ cleared_at (length old) x in
-    let r : Tally = record { total = t.total + sum; most = 0 } in (
-      none_bounded new r (ap length e ∙ length_listed (length old) (λ _. 0) ∙ h.long) zeros refl,
-      none_in_all new r zeros ∙ ap (λ (k : ℕ). t.total + k) s,
-    )
+pub nothing_in : (total : ℕ) (columns : List ℕ) → ((x : ℕ) → get_or columns x 0 ≡ 0) → total + sum_over 256 (λ x. get_or columns x 0) ≡ total
+nothing_in total columns zeros = omega (arith, sum_of_zeros 256 (λ x. get_or columns x 0) (λ x l. zeros x))
 
--- ---- the first n columns, lent
-pub lent_up_to : (columns : List ℕ) (n : ℕ) {most room : ℕ} → AllUpTo most columns → most ≤ room → AllUpTo room (take n columns)
-lent_up_to columns n {most} {room} h r x = at (dec_lt x n)
-  where
-    at : Dec (x < n) → get_or (take n columns) x 0 ≤ room
-    at (yes l) = omega (arith, get_or-take n columns x 0 l, h x)
-    at (no l) = omega (arith, get_or-eq_default (take n columns) 0 {n = x} (rw length-take (omega (arith, l))))
-
--- ---- the first n columns, lent, and to each its bend added
-module _
-    (f : ℕ → ℕ) (old : List ℕ) (n : ℕ) {part : List ℕ}
-    (inside : n ≤ length old)
-    (e : part ≡ listed (length (take (n - 0) old)) (λ x. get_or (take (n - 0) old) x 0 + f x)) where
-  whole : n - 0 ≡ n
-  whole = omega arith
-
-  lent_long : length (take (n - 0) old) ≡ n
-  lent_long = rw whole (length-take-le n old inside)
-
-  given : part ≡ listed n (λ x. get_or (take (n - 0) old) x 0 + f x)
-  given = e ∙ ap (λ (k : ℕ). listed k (λ x. get_or (take (n - 0) old) x 0 + f x)) lent_long
-
-  places : length part ≡ n
-  places = ap length given ∙ length_listed n (λ x. get_or (take (n - 0) old) x 0 + f x)
-
+-- one of which column x grew by v
+module _ (columns : List ℕ) (x v : ℕ) (inside : x < length columns) where
   abbrev grown : List ℕ
-  grown = part ++ drop (n - 0) old
+  grown = set columns x (get_or columns x 0 + v)
 
-  front_at : (x : ℕ) → x < n → get_or grown x 0 ≡ get_or old x 0 + f x
-  front_at x l =
-      get_or-append part (drop (n - 0) old) 0 x (rw places l)
-      ∙ ap (λ (l : List ℕ). get_or l x 0) given
-      ∙ listed_at n (λ x. get_or (take (n - 0) old) x 0 + f x) x 0 l
-      ∙ ap (λ (k : ℕ). k + f x) (get_or-take (n - 0) old x 0 (omega arith))
+  pub grown_at : get_or grown x 0 ≡ get_or columns x 0 + v
+  grown_at = get_or-set_same columns x (get_or columns x 0 + v) 0 inside
 
-  back_at : (k : ℕ) → get_or grown (n + k) 0 ≡ get_or old (n + k) 0
-  back_at k =
-      ap (λ (m : ℕ). get_or grown (m + k) 0) (sym places)
-      ∙ get_or-append-add part (drop (n - 0) old) k 0
-      ∙ get_or-drop (n - 0) old k 0
-      ∙ ap (λ (m : ℕ). get_or old (m + k) 0) whole
+  pub same_at : (k : ℕ) → (k ≡ x → ⊥) → get_or grown k 0 ≡ get_or columns k 0
+  same_at k other = rw get_or-set_other refl
 
-  grown_long : length grown ≡ length old
-  grown_long = length-append part (drop (n - 0) old) ∙ rw length-drop (omega (arith, places))
-
-  grown_sum : (k : ℕ) → sum_over (n + k) (λ x. get_or grown x 0) ≡ sum_over (n + k) (λ x. get_or old x 0) + sum_over n f
-  grown_sum k =
-      omega (
-        arith,
-        sum_parts n k (λ x. get_or grown x 0),
-        sum_parts n k (λ x. get_or old x 0),
-        same_terms n (λ x. get_or grown x 0) (λ x. get_or old x 0 + f x) front_at,
-        sum_of_both n (λ x. get_or old x 0) f,
-        same_terms k (λ x. get_or grown (n + x) 0) (λ x. get_or old (n + x) 0) (λ x l. back_at x),
-      )
-
-  grown_up_to : (most bend : ℕ) → AllUpTo most old → ((x : ℕ) → f x ≤ bend) → AllUpTo (most + bend) grown
-  grown_up_to most bend h b x = at (dec_lt x n)
+  pub grown_sum : (n : ℕ) → x < n → sum_over n (λ k. get_or grown k 0) ≡ sum_over n (λ k. get_or columns k 0) + v
+  unfolding sum_over
+  grown_sum zero h = absurd (omega arith)
+  grown_sum (suc n) h = last (ℕ_discrete x n) (grown_sum n)
     where
-      at : Dec (x < n) → get_or grown x 0 ≤ most + bend
-      at (yes l) = omega (arith, front_at x l, h x, b x)
-      at (no l) =
-          let behind : n + (x - n) ≡ x = omega (arith, l) in
-          let same : get_or grown x 0 ≡ get_or old x 0 = rw behind at (back_at (x - n)) in
-          omega (arith, same, h x)
+      last :
+          Dec (x ≡ n) → (x < n → sum_over n (λ k. get_or grown k 0) ≡ sum_over n (λ k. get_or columns k 0) + v) →
+          sum_over n (λ k. get_or grown k 0) + get_or grown n 0 ≡ sum_over n (λ k. get_or columns k 0) + get_or columns n 0 + v
+      last (yes e) earlier =
+          omega (
+            arith,
+            same_terms n (λ k. get_or grown k 0) (λ k. get_or columns k 0) (λ k m. same_at k (λ q. absurd (omega (arith, m, q, e)))),
+            ap (λ (k : ℕ). get_or grown k 0) e,
+            grown_at,
+            ap (λ (k : ℕ). get_or columns k 0) e,
+          )
+      last (no e) earlier =
+          let below : x < n = omega (arith, e) in
+          omega (arith, earlier below, same_at n (λ q. e (sym q)))
 
-  pub grown_tally :
-      {t : Tally} {bend : ℕ} → Bounded old t → t.most + bend ≤ 65535 → ((x : ℕ) → f x ≤ bend) →
-      Bounded grown (record { total = t.total; most = t.most + bend })
-      × (in_all grown (record { total = t.total; most = t.most + bend }) ≡ in_all old t + sum_over n f)
-  grown_tally {t} {bend} h room b =
-      let all : n + (256 - n) ≡ 256 = omega (arith, h.long, inside) in
-      let sum : sum_over 256 (λ x. get_or grown x 0) ≡ sum_over 256 (λ x. get_or old x 0) + sum_over n f = rw all at (grown_sum (256 - n)) in (
-        record { long = grown_long ∙ h.long; up_to = grown_up_to t.most bend h.up_to b; fits = room },
-        omega (arith, sum),
-      )
-
--- ---- a row's bends, added to the total
-pub adds_sum :
-    {columns : List ℕ} {t r : Tally} {sum : ℕ} (whole : ℕ) →
-    Bounded columns t → sum ≡ whole → sum < 2 ^ 32 → (r.total ≡ t.total + sum) × (r.most ≡ t.most) →
-    Grown columns columns t r whole
-adds_sum whole h s small e = record {
-  bounded = record { long = h.long; up_to = λ x. omega (arith, h.up_to x); fits = omega (arith, h.fits) };
-  exact = omega arith;
-  small = omega arith;
-}
-
--- ---- a tally after x of n terms that were added to `old`
-pub record Tallied (f : ℕ → ℕ) (n old : ℕ) (columns : List ℕ) (t : Tally) (x : ℕ) : Type 0 where
-  pub within : x ≤ n
-  pub bounded : Bounded columns t
-  pub exact : in_all columns t ≡ old + sum_over x f
-
+-- ---- a tally that takes f 0, f 1, ..
 no_terms : (f : ℕ → ℕ) → sum_over 0 f ≡ 0
 unfolding sum_over
 no_terms f = refl
 
-module _ {f : ℕ → ℕ} {n : ℕ} where
-  pub tally_starts : {columns : List ℕ} {t : Tally} → Bounded columns t → Tallied f n (in_all columns t) columns t 0
-  tally_starts h = record { within = omega arith; bounded = h; exact = omega (arith, no_terms f) }
+pub takes_none : (f : ℕ → ℕ) (held : ℕ) {x : ℕ} → x ≡ 0 → held ≡ held + sum_over x f
+takes_none f held e = omega (arith, ap (λ (k : ℕ). sum_over k f) e, no_terms f)
 
-  pub tally_ends :
-      {old x : ℕ} {columns : List ℕ} {t : Tally} → Tallied f n old columns t x → n ≤ x → Bounded columns t × (in_all columns t ≡ old + sum_over n f)
-  tally_ends {old} s l = (s.bounded, s.exact ∙ ap (λ (k : ℕ). old + sum_over k f) (le_antisymm s.within l))
+-- into its columns
+pub takes_bend :
+    (f : ℕ → ℕ) (total : ℕ) (columns : List ℕ) (start x v : ℕ) → x < length columns → length columns ≡ 256 → v ≡ f x →
+    total + sum_over 256 (λ k. get_or columns k 0) ≡ start + sum_over x f →
+    total + sum_over 256 (λ k. get_or (set columns x (get_or columns x 0 + v)) k 0) ≡ start + sum_over (x + 1) f
+takes_bend f total columns start x v inside long e h = omega (arith, grown_sum columns x v inside 256 (omega arith), one_more x f)
 
--- ---- row after row: a tally that starts at nothing
-abbrev pub no_columns : List ℕ
-no_columns = replicate 256 0
+pub takes_all : (f : ℕ → ℕ) (start x n : ℕ) {held : ℕ} → held ≡ start + sum_over x f → x ≤ n → n ≤ x → held ≡ start + sum_over n f
+takes_all f start x n h l m = h ∙ ap (λ (k : ℕ). start + sum_over k f) (le_antisymm l m)
 
-abbrev pub no_tally : Tally
-no_tally = record { total = 0; most = 0 }
-
-pub nothing_bounded : Bounded no_columns no_tally
-nothing_bounded = none_bounded no_columns no_tally (length-replicate {A = ℕ} 256 0) (fresh_at 256) refl
-
-pub nothing_in_all : (most : ℕ) (f : ℕ → ℕ) (n : ℕ) → Summed most f n (in_all no_columns no_tally) 0
-nothing_in_all most f n =
-    let none : in_all no_columns no_tally ≡ 0 = none_in_all no_columns no_tally (fresh_at 256) in
-    record { within = omega arith; small = omega (arith, none); exact = none ∙ sym (no_terms f) }
+-- row after row
+pub starts_empty : {most : ℕ} {f : ℕ → ℕ} {n total : ℕ} → total ≡ 0 → Summed most f n total 0
+starts_empty {most} {f} e = record { within = omega arith; small = omega arith; exact = e ∙ sym (no_terms f) }
 
 pub adds_row :
     {most : ℕ} {f : ℕ → ℕ} {n total later k : ℕ} (sum : ℕ) →

@@ -12,10 +12,8 @@ use Rattle.laws.proofs.Lists.{part_length, part_at}
 use Rattle.laws.proofs.Sums.{same_terms, sum_parts}
 use Rattle.comb.specs.declared.Kind.{Kind}
 use Rattle.comb.specs.declared.Kind.TheVariants.{Byte, Pair, Cut, Green}
-use Rattle.comb.specs.declared.Tally.{Tally}
 use Rattle.comb.specs.Comb.{bend_of}
-use Rattle.comb.specs.Rows.{size_of, code_in, bend_in, codes_of, low_in, Rows, Grown}
-use Rattle.comb.proofs.Columns.{Tallied}
+use Rattle.comb.specs.Rows.{size_of, code_in, bend_in, codes_of, low_in, Rows}
 
 -- a bend of three numbers is that of the codes which they are
 pub same_bend : {a b c up here down r : ℕ} → r ≡ apart (2 * b) (a + c) → a ≡ up → b ≡ here → c ≡ down → r ≡ apart (2 * here) (up + down)
@@ -109,20 +107,15 @@ module _
 
   -- with its bends, those of the columns before it become those of the columns up to its end
   pub adds_tile :
-      {width before : ℕ} {columns later : List ℕ} {t r : Tally} →
-      Tallied (bend_in (Cut full) up here down) width before columns t x → x + n ≤ width →
-      Grown columns later t r (sum_over n (bend_in (Cut full) upper inner lower)) →
-      Tallied (bend_in (Cut full) up here down) width before later r (x + n)
-  adds_tile s w m = record {
-    within = w;
-    bounded = m.bounded;
-    exact =
-        omega (
-          arith,
-          s.exact,
-          m.exact,
-          same_terms n (bend_in (Cut full) upper inner lower) (λ k. bend_in (Cut full) up here down (x + k))
-              (λ k l. same_bend refl (tile_code full up x n k u l) (tile_code full here x n k h l) (tile_code full down x n k d l)),
-          sum_parts x n (bend_in (Cut full) up here down),
-        );
-  }
+      (before : ℕ) {held later : ℕ} →
+      held ≡ before + sum_over x (bend_in (Cut full) up here down) → later ≡ held + sum_over n (bend_in (Cut full) upper inner lower) →
+      later ≡ before + sum_over (x + n) (bend_in (Cut full) up here down)
+  adds_tile before s m =
+      omega (
+        arith,
+        s,
+        m,
+        same_terms n (bend_in (Cut full) upper inner lower) (λ k. bend_in (Cut full) up here down (x + k))
+            (λ k l. same_bend refl (tile_code full up x n k u l) (tile_code full here x n k h l) (tile_code full down x n k d l)),
+        sum_parts x n (bend_in (Cut full) up here down),
+      )

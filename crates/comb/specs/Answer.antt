@@ -2,17 +2,6 @@
 use Rattle.std.specs.Prelude.{ℕ, ◌*◌, Bool, ◌&&◌, List, [], ◌∷◌, leb}
 use Rattle.laws.specs.Refusal.{lowest}
 use Rattle.plane.specs.Plane.{good_shape, plane_bytes, unshifted}
-use Rattle.comb.specs.declared.Combed.{Combed}
-use Rattle.comb.specs.declared.Combed.TheVariants.{Value, Refused}
-
--- An answer by its cases: a value is number 0 and that value, a refusal its number and no value.
-abbrev pub combed_no : Combed → ℕ
-combed_no (Value total) = 0
-combed_no (Refused n) = n
-
-abbrev pub combed_values : Combed → List ℕ
-combed_values (Value total) = total ∷ []
-combed_values (Refused n) = []
 
 -- 4: the shape is outside the bounds. 6: the lent plane, of so many bytes, is shorter than its shape needs.
 abbrev pub comb_tests : ℕ → ℕ → ℕ → ℕ → ℕ → List (ℕ × Bool)

@@ -2,9 +2,8 @@
 use Rattle.std.specs.Prelude.{ℕ, ◌-◌, ◌*◌, ◌≤◌, ◌<◌, ◌≡◌, List}
 use Rattle.laws.specs.Refusal.{Says}
 use Rattle.plane.specs.Plane.{unshifted, full_code, code_of}
-use Rattle.comb.specs.declared.Combed.{Combed}
 use Rattle.comb.specs.Comb.{comb_of, plane_comb}
-use Rattle.comb.specs.Answer.{combed_no, combed_values, comb_tests, rgba_tests}
+use Rattle.comb.specs.Answer.{comb_tests, rgba_tests}
 
 -- `comb` gives 4 exactly when the shape is outside the bounds, 6 exactly when only the plane is too short, and 0 exactly when neither
 abbrev pub CombSays : Type 0
@@ -13,10 +12,6 @@ CombSays = (width height depth stride bytes : ℕ) → Says (comb_tests width he
 -- `comb_rgba` likewise, of a picture's width and height and of its bytes
 abbrev pub RgbaSays : Type 0
 RgbaSays = (width height bytes : ℕ) → Says (rgba_tests width height bytes)
-
--- number and values leave no choice: a contract that settles both settles the answer
-abbrev pub OneCombed : Type 0
-OneCombed = (a b : Combed) → combed_no a ≡ combed_no b → combed_values a ≡ combed_values b → a ≡ b
 
 -- comb is at most twice the largest code for each column and inner row, whatever the bytes
 abbrev pub CombWithin : Type 0

@@ -2,4 +2,5 @@
 pub mod Comb
 pub mod Answer
 pub mod Rows
+pub mod Tally
 pub mod Claims

@@ -1,11 +1,10 @@
 -- How the private functions read a row: which bytes a column's code is made of. No public contract cites this file.
-use Rattle.std.specs.Prelude.{ℕ, ◌+◌, ◌*◌, ◌^◌, ◌≤◌, ◌<◌, min, ◌≡◌, cond, List, leb, ltb, length, get_or, drop}
+use Rattle.std.specs.Prelude.{ℕ, ◌+◌, ◌*◌, ◌≤◌, min, ◌≡◌, cond, List, leb, ltb, length, get_or, drop}
 use Rattle.laws.specs.Rows.{listed}
-use Rattle.laws.specs.Sums.{sum_over, apart}
+use Rattle.laws.specs.Sums.{apart}
 use Rattle.plane.specs.Plane.{full_code}
 use Rattle.comb.specs.declared.Kind.{Kind}
 use Rattle.comb.specs.declared.Kind.TheVariants.{Byte, Pair, Cut, Green}
-use Rattle.comb.specs.declared.Tally.{Tally}
 
 abbrev pub kind_of : ℕ → Kind
 kind_of depth = cond (leb depth 8) Byte (cond (ltb depth 16) (Cut (full_code depth)) Pair)
@@ -47,11 +46,6 @@ pub record Rows (kind : Kind) (width : ℕ) (up here down : List ℕ) : Type 0 w
   pub narrow : width ≤ 8192
   pub low : low_in kind
 
--- ---- bends added up in two places: the total of a `Tally`, and 256 columns of sixteen bits beside it
--- what both hold
-abbrev pub in_all : List ℕ → Tally → ℕ
-in_all columns t = t.total + sum_over 256 (λ x. get_or columns x 0)
-
 -- to each column its own number added
 abbrev pub each_plus : List ℕ → (ℕ → ℕ) → List ℕ
 each_plus columns f = listed (length columns) (λ x. get_or columns x 0 + f x)
@@ -59,15 +53,3 @@ each_plus columns f = listed (length columns) (λ x. get_or columns x 0 + f x)
 -- no column is above `most`
 abbrev pub AllUpTo : ℕ → List ℕ → Type 0
 AllUpTo most columns = (x : ℕ) → get_or columns x 0 ≤ most
-
--- 256 columns, none above the tally's `most`, which fits sixteen bits
-pub record Bounded (columns : List ℕ) (t : Tally) : Type 0 where
-  pub long : length columns ≡ 256
-  pub up_to : AllUpTo t.most columns
-  pub fits : t.most ≤ 65535
-
--- a sum below 2 ^ 32 was added to what they hold
-pub record Grown (old new : List ℕ) (t r : Tally) (sum : ℕ) : Type 0 where
-  pub bounded : Bounded new r
-  pub exact : in_all new r ≡ in_all old t + sum
-  pub small : sum < 2 ^ 32
