@@ -219,7 +219,10 @@ fn sample(answer: &[u8]) -> bool {
         & answers::same_float(value, answers::number(answer, 21))
 }
 
-fn plane_to(answer: &[u8], out: &mut [f32]) -> bool {
+fn plane(answer: &[u8]) -> bool {
+    let mut out = [lent::value(); 512];
+    let n = answers::room(answers::bytes(answer, 18, 3), 4096) / 8;
+    let out = &mut out[..n];
     let found = desk::filters::desk_plane(
         answers::byte(answer, 0),
         answers::byte(answer, 1),
@@ -234,12 +237,6 @@ fn plane_to(answer: &[u8], out: &mut [f32]) -> bool {
     answers::whole(answer, 18, 4)
         & answers::same_byte(answer, 17, found)
         & answers::same_floats(out, answers::bytes(answer, 18, 3))
-}
-
-fn plane(answer: &[u8]) -> bool {
-    let mut out = [lent::value(); 512];
-    let out_room = answers::room(answers::bytes(answer, 18, 3), 4096) / 8;
-    plane_to(answer, &mut out[0..out_room])
 }
 
 fn code(answer: &[u8]) -> bool {

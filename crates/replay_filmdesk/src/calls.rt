@@ -96,41 +96,41 @@ fn busy(answer: &[u8]) -> bool {
         & answers::same(answer, 7, total)
 }
 
-fn cadences_to(answer: &[u8], out: &mut [u8]) -> bool {
+fn cadences(answer: &[u8]) -> bool {
+    let mut out = [lent::BYTE; 4096];
+    let n = answers::room(answers::bytes(answer, 1, 1), 4096);
+    let out = &mut out[..n];
     let found = filmdesk::desk_cadences(answers::bytes(answer, 1, 0), out);
     answers::whole(answer, 1, 2)
         & answers::same_byte(answer, 0, found)
         & check::same(out, answers::bytes(answer, 1, 1))
 }
 
-fn cadences(answer: &[u8]) -> bool {
-    let mut out = [lent::BYTE; 4096];
-    let out_room = answers::room(answers::bytes(answer, 1, 1), 4096);
-    cadences_to(answer, &mut out[0..out_room])
-}
-
 fn detector_new(answer: &[u8], state: &mut [u8]) -> bool {
     let asked = answers::number(answer, 0);
-    let n = lent::part(asked, state.len());
     let there = asked <= state.len() as u64;
-    let found = filmdesk::desk_detector_new(&mut state[0..n]);
+    let n = lent::part(asked, state.len());
+    let state = &mut state[..n];
+    let found = filmdesk::desk_detector_new(state);
     answers::whole(answer, 2, 0) & there & answers::same_byte(answer, 1, found)
 }
 
 fn detector_reset(answer: &[u8], state: &mut [u8]) -> bool {
     let asked = answers::number(answer, 0);
-    let n = lent::part(asked, state.len());
     let there = asked <= state.len() as u64;
-    let found = filmdesk::desk_detector_reset(&mut state[0..n]);
+    let n = lent::part(asked, state.len());
+    let state = &mut state[..n];
+    let found = filmdesk::desk_detector_reset(state);
     answers::whole(answer, 2, 0) & there & answers::same_byte(answer, 1, found)
 }
 
 fn detector_locked(answer: &[u8], state: &[u8]) -> bool {
     let asked = answers::number(answer, 0);
-    let n = lent::part(asked, state.len());
     let there = asked <= state.len() as u64;
+    let n = lent::part(asked, state.len());
+    let state = &state[..n];
     let mut locked = lent::BYTE;
-    let found = filmdesk::desk_detector_locked(&state[0..n], &mut locked);
+    let found = filmdesk::desk_detector_locked(state, &mut locked);
     answers::whole(answer, 3, 0)
         & there
         & answers::same_byte(answer, 1, found)
@@ -139,14 +139,11 @@ fn detector_locked(answer: &[u8], state: &[u8]) -> bool {
 
 fn detector_predict(answer: &[u8], state: &[u8]) -> bool {
     let asked = answers::number(answer, 0);
-    let n = lent::part(asked, state.len());
     let there = asked <= state.len() as u64;
+    let n = lent::part(asked, state.len());
+    let state = &state[..n];
     let mut cadence = lent::BYTE;
-    let found = filmdesk::desk_detector_predict(
-        &state[0..n],
-        answers::number(answer, 1),
-        &mut cadence,
-    );
+    let found = filmdesk::desk_detector_predict(state, answers::number(answer, 1), &mut cadence);
     answers::whole(answer, 4, 0)
         & there
         & answers::same_byte(answer, 2, found)
@@ -155,11 +152,12 @@ fn detector_predict(answer: &[u8], state: &[u8]) -> bool {
 
 fn detector_push_measured(answer: &[u8], state: &mut [u8]) -> bool {
     let asked = answers::number(answer, 0);
-    let n = lent::part(asked, state.len());
     let there = asked <= state.len() as u64;
+    let n = lent::part(asked, state.len());
+    let state = &mut state[..n];
     let mut cadence = lent::BYTE;
     let found = filmdesk::desk_detector_push_measured(
-        &mut state[0..n],
+        state,
         answers::byte(answer, 1),
         answers::byte(answer, 2),
         answers::number(answer, 3),
@@ -174,7 +172,13 @@ fn detector_push_measured(answer: &[u8], state: &mut [u8]) -> bool {
         & answers::same_byte(answer, 8, cadence)
 }
 
-fn detector_push_to(answer: &[u8], state: &mut [u8], store: &mut [u8]) -> bool {
+fn detector_push(answer: &[u8], state: &mut [u8], store: &mut [u8]) -> bool {
+    let asked = answers::number(answer, 0);
+    let there = asked <= state.len() as u64;
+    let n = lent::part(asked, state.len());
+    let state = &mut state[..n];
+    let n = answers::room(answers::bytes(answer, 8, 1), store.len());
+    let store = &mut store[..n];
     let mut cadence = lent::BYTE;
     let found = filmdesk::desk_detector_push(
         state,
@@ -185,16 +189,8 @@ fn detector_push_to(answer: &[u8], state: &mut [u8], store: &mut [u8]) -> bool {
         &mut cadence,
     );
     answers::whole(answer, 8, 2)
+        & there
         & answers::same_byte(answer, 6, found)
         & answers::same_byte(answer, 7, cadence)
         & check::same(store, answers::bytes(answer, 8, 1))
-}
-
-fn detector_push(answer: &[u8], state: &mut [u8], store: &mut [u8]) -> bool {
-    let asked = answers::number(answer, 0);
-    let n = lent::part(asked, state.len());
-    let there = asked <= state.len() as u64;
-    let store_room = answers::room(answers::bytes(answer, 8, 1), store.len());
-    let gave = detector_push_to(answer, &mut state[0..n], &mut store[0..store_room]);
-    there & gave
 }

@@ -83,7 +83,10 @@ fn frame_numbers(answer: &[u8], k: u8) -> picturedesk::FrameNumbers {
     }
 }
 
-fn picture_to(answer: &[u8], out: &mut [u8]) -> bool {
+fn picture(answer: &[u8]) -> bool {
+    let mut out = [lent::BYTE; 4096];
+    let n = answers::room(answers::bytes(answer, 60, 9), 4096);
+    let out = &mut out[..n];
     let found = picturedesk::desk_picture(
         answers::byte(answer, 0),
         output_numbers(answer, 1),
@@ -105,10 +108,4 @@ fn picture_to(answer: &[u8], out: &mut [u8]) -> bool {
     answers::whole(answer, 60, 10)
         & answers::same_byte(answer, 59, found)
         & check::same(out, answers::bytes(answer, 60, 9))
-}
-
-fn picture(answer: &[u8]) -> bool {
-    let mut out = [lent::BYTE; 4096];
-    let out_room = answers::room(answers::bytes(answer, 60, 9), 4096);
-    picture_to(answer, &mut out[0..out_room])
 }

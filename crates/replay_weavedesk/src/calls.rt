@@ -116,7 +116,16 @@ fn readback_numbers(answer: &[u8], k: u8) -> weavedesk::ReadbackNumbers {
     }
 }
 
-fn weave_to(answer: &[u8], out_luma: &mut [u8], out_cb: &mut [u8], out_cr: &mut [u8]) -> bool {
+fn weave(answer: &[u8]) -> bool {
+    let mut out_luma = [lent::BYTE; 4096];
+    let n = answers::room(answers::bytes(answer, 25, 6), 4096);
+    let out_luma = &mut out_luma[..n];
+    let mut out_cb = [lent::BYTE; 4096];
+    let n = answers::room(answers::bytes(answer, 25, 7), 4096);
+    let out_cb = &mut out_cb[..n];
+    let mut out_cr = [lent::BYTE; 4096];
+    let n = answers::room(answers::bytes(answer, 25, 8), 4096);
+    let out_cr = &mut out_cr[..n];
     let found = weavedesk::desk_weave(
         field_numbers(answer, 0),
         answers::bytes(answer, 25, 0),
@@ -137,21 +146,6 @@ fn weave_to(answer: &[u8], out_luma: &mut [u8], out_cb: &mut [u8], out_cr: &mut 
         & check::same(out_cr, answers::bytes(answer, 25, 8))
 }
 
-fn weave(answer: &[u8]) -> bool {
-    let mut out_luma = [lent::BYTE; 4096];
-    let mut out_cb = [lent::BYTE; 4096];
-    let mut out_cr = [lent::BYTE; 4096];
-    let out_luma_room = answers::room(answers::bytes(answer, 25, 6), 4096);
-    let out_cb_room = answers::room(answers::bytes(answer, 25, 7), 4096);
-    let out_cr_room = answers::room(answers::bytes(answer, 25, 8), 4096);
-    weave_to(
-        answer,
-        &mut out_luma[0..out_luma_room],
-        &mut out_cb[0..out_cb_room],
-        &mut out_cr[0..out_cr_room],
-    )
-}
-
 fn line_number(answer: &[u8]) -> bool {
     let found = weavedesk::desk_line_number(
         grid_numbers(answer, 0),
@@ -163,7 +157,10 @@ fn line_number(answer: &[u8]) -> bool {
     answers::whole(answer, 12, 0) & answers::same_byte(answer, 11, found)
 }
 
-fn woven_line_to(answer: &[u8], out: &mut [u8]) -> bool {
+fn woven_line(answer: &[u8]) -> bool {
+    let mut out = [lent::BYTE; 4096];
+    let n = answers::room(answers::bytes(answer, 10, 2), 4096);
+    let out = &mut out[..n];
     let found = weavedesk::desk_woven_line(
         answers::bytes(answer, 10, 0),
         grid_numbers(answer, 0),
@@ -175,12 +172,6 @@ fn woven_line_to(answer: &[u8], out: &mut [u8]) -> bool {
     answers::whole(answer, 10, 3)
         & answers::same_byte(answer, 9, found)
         & check::same(out, answers::bytes(answer, 10, 2))
-}
-
-fn woven_line(answer: &[u8]) -> bool {
-    let mut out = [lent::BYTE; 4096];
-    let out_room = answers::room(answers::bytes(answer, 10, 2), 4096);
-    woven_line_to(answer, &mut out[0..out_room])
 }
 
 fn woven(answer: &[u8]) -> bool {
@@ -216,12 +207,16 @@ fn readback_sizes(answer: &[u8]) -> bool {
         & answers::same(answer, 10, cr_bytes)
 }
 
-fn readback_copy_to(
-    answer: &[u8],
-    out_luma: &mut [u8],
-    out_cb: &mut [u8],
-    out_cr: &mut [u8],
-) -> bool {
+fn readback_copy(answer: &[u8]) -> bool {
+    let mut out_luma = [lent::BYTE; 4096];
+    let n = answers::room(answers::bytes(answer, 8, 3), 4096);
+    let out_luma = &mut out_luma[..n];
+    let mut out_cb = [lent::BYTE; 4096];
+    let n = answers::room(answers::bytes(answer, 8, 4), 4096);
+    let out_cb = &mut out_cb[..n];
+    let mut out_cr = [lent::BYTE; 4096];
+    let n = answers::room(answers::bytes(answer, 8, 5), 4096);
+    let out_cr = &mut out_cr[..n];
     let found = weavedesk::desk_readback_copy(
         readback_numbers(answer, 0),
         answers::bytes(answer, 8, 0),
@@ -238,45 +233,40 @@ fn readback_copy_to(
         & check::same(out_cr, answers::bytes(answer, 8, 5))
 }
 
-fn readback_copy(answer: &[u8]) -> bool {
-    let mut out_luma = [lent::BYTE; 4096];
-    let mut out_cb = [lent::BYTE; 4096];
-    let mut out_cr = [lent::BYTE; 4096];
-    let out_luma_room = answers::room(answers::bytes(answer, 8, 3), 4096);
-    let out_cb_room = answers::room(answers::bytes(answer, 8, 4), 4096);
-    let out_cr_room = answers::room(answers::bytes(answer, 8, 5), 4096);
-    readback_copy_to(
-        answer,
-        &mut out_luma[0..out_luma_room],
-        &mut out_cb[0..out_cb_room],
-        &mut out_cr[0..out_cr_room],
-    )
-}
-
 fn weaver_new(answer: &[u8], state: &mut [u8]) -> bool {
     let asked = answers::number(answer, 0);
-    let n = lent::part(asked, state.len());
     let there = asked <= state.len() as u64;
-    let found = weavedesk::desk_weaver_new(&mut state[0..n]);
+    let n = lent::part(asked, state.len());
+    let state = &mut state[..n];
+    let found = weavedesk::desk_weaver_new(state);
     answers::whole(answer, 2, 0) & there & answers::same_byte(answer, 1, found)
 }
 
 fn weaver_clear(answer: &[u8], state: &mut [u8]) -> bool {
     let asked = answers::number(answer, 0);
-    let n = lent::part(asked, state.len());
     let there = asked <= state.len() as u64;
-    let found = weavedesk::desk_weaver_clear(&mut state[0..n]);
+    let n = lent::part(asked, state.len());
+    let state = &mut state[..n];
+    let found = weavedesk::desk_weaver_clear(state);
     answers::whole(answer, 2, 0) & there & answers::same_byte(answer, 1, found)
 }
 
-fn weaver_push_made(
-    answer: &[u8],
-    state: &mut [u8],
-    store: &mut [u8],
-    out_luma: &mut [u8],
-    out_cb: &mut [u8],
-    out_cr: &mut [u8],
-) -> bool {
+fn weaver_push(answer: &[u8], state: &mut [u8], store: &mut [u8]) -> bool {
+    let asked = answers::number(answer, 0);
+    let there = asked <= state.len() as u64;
+    let n = lent::part(asked, state.len());
+    let state = &mut state[..n];
+    let n = answers::room(answers::bytes(answer, 20, 3), store.len());
+    let store = &mut store[..n];
+    let mut out_luma = [lent::BYTE; 4096];
+    let n = answers::room(answers::bytes(answer, 20, 4), 4096);
+    let out_luma = &mut out_luma[..n];
+    let mut out_cb = [lent::BYTE; 4096];
+    let n = answers::room(answers::bytes(answer, 20, 5), 4096);
+    let out_cb = &mut out_cb[..n];
+    let mut out_cr = [lent::BYTE; 4096];
+    let n = answers::room(answers::bytes(answer, 20, 6), 4096);
+    let out_cr = &mut out_cr[..n];
     let mut picture = lent::BYTE;
     let mut earlier_timed = lent::BYTE;
     let mut earlier_time = lent::LONG;
@@ -297,45 +287,14 @@ fn weaver_push_made(
         &mut earlier_timed,
         &mut earlier_time,
     );
-    answers::same_byte(answer, 16, found)
+    answers::whole(answer, 20, 7)
+        & there
+        & answers::same_byte(answer, 16, found)
         & answers::same_byte(answer, 17, picture)
         & answers::same_byte(answer, 18, earlier_timed)
         & (earlier_time == answers::long(answer, 19))
-}
-
-fn weaver_push_to(
-    answer: &[u8],
-    state: &mut [u8],
-    store: &mut [u8],
-    out_luma: &mut [u8],
-    out_cb: &mut [u8],
-    out_cr: &mut [u8],
-) -> bool {
-    let made = weaver_push_made(answer, state, store, out_luma, out_cb, out_cr);
-    made & check::same(store, answers::bytes(answer, 20, 3))
+        & check::same(store, answers::bytes(answer, 20, 3))
         & check::same(out_luma, answers::bytes(answer, 20, 4))
         & check::same(out_cb, answers::bytes(answer, 20, 5))
         & check::same(out_cr, answers::bytes(answer, 20, 6))
-}
-
-fn weaver_push(answer: &[u8], state: &mut [u8], store: &mut [u8]) -> bool {
-    let asked = answers::number(answer, 0);
-    let n = lent::part(asked, state.len());
-    let there = asked <= state.len() as u64;
-    let mut out_luma = [lent::BYTE; 4096];
-    let mut out_cb = [lent::BYTE; 4096];
-    let mut out_cr = [lent::BYTE; 4096];
-    let store_room = answers::room(answers::bytes(answer, 20, 3), store.len());
-    let out_luma_room = answers::room(answers::bytes(answer, 20, 4), 4096);
-    let out_cb_room = answers::room(answers::bytes(answer, 20, 5), 4096);
-    let out_cr_room = answers::room(answers::bytes(answer, 20, 6), 4096);
-    let gave = weaver_push_to(
-        answer,
-        &mut state[0..n],
-        &mut store[0..store_room],
-        &mut out_luma[0..out_luma_room],
-        &mut out_cb[0..out_cb_room],
-        &mut out_cr[0..out_cr_room],
-    );
-    answers::whole(answer, 20, 7) & there & gave
 }
