@@ -2,21 +2,19 @@
 -- proofs/Cards.antt proves. A card holds a number that the definitions of the crates give and the number that docs/RULES.md says. A test
 -- counts as 1 where it holds and 0 where it does not; symbols and cadences have their numbers. Lists of frames are newest first. Of the cards
 -- without a P those of `quantise` are proved too, in crate `colour` (`QuantiseCards`); the others are only run.
-use Rattle.std.specs.Prelude.{◌≡◌, ℕ, zero, suc, ◌+◌, ◌*◌, ◌%◌, Bool, cond, List, [], ◌∷◌, nat_lt}
-use Rattle.field.specs.declared.Cadence.TheVariants.{None, Whole}
+use Rattle.std.specs.Prelude.{◌≡◌, ℕ, zero, suc, ◌+◌, ◌*◌, ◌%◌, Bool, cond, List, [], ◌∷◌, nat_lt, Option, Some, None}
+use Rattle.field.specs.declared.Cadence.TheVariants as cadence
 use Rattle.field.specs.declared.Parity.TheVariants.{Top}
 use Rattle.field.specs.Field.{cadence_number}
 use Rattle.comb.specs.Comb.{plane_comb}
 use Rattle.block.specs.Block.{one_if, busy}
+use Rattle.pulldown.specs.declared.Symbol.{Symbol}
 use Rattle.pulldown.specs.declared.Symbol.TheVariants.{Still, Moved, RepeatFirst}
-use Rattle.pulldown.specs.declared.Seen.{Seen}
-use Rattle.pulldown.specs.declared.Seen.TheVariants as seen
 use Rattle.pulldown.specs.Symbols.{symbol_number, symbol_of}
 use Rattle.pulldown.specs.Table.{expected_at}
 use Rattle.pulldown.specs.Lock.{locked_of, lock_of, predict_cadence}
 use Rattle.telecine.specs.declared.Detector.{Detector}
 use Rattle.telecine.specs.declared.Measured.{Measured}
-use Rattle.telecine.specs.declared.Measured.TheVariants.{Absent, Counts}
 use Rattle.telecine.specs.History.{Call, push, measured, after}
 
 pub record Card : Type 0 where
@@ -52,9 +50,9 @@ first_of passes zero = 0
 first_of passes (suc n) = or_else (first_of passes n) (cond (passes (suc n)) (suc n) 0)
 
 -- the first n frames of the clean pattern, from a step on
-abbrev pub clean : ℕ → ℕ → List Seen
+abbrev pub clean : ℕ → ℕ → List (Option Symbol)
 clean step zero = []
-clean step (suc n) = seen.Symbol (expected_at ((step + n) % 5)) ∷ clean step n
+clean step (suc n) = Some (expected_at ((step + n) % 5)) ∷ clean step n
 
 -- the frame, counted from 1, at which the clean pattern from an empty run that starts at a step locks first; 0 for none of 15
 abbrev pub locks_from : ℕ → ℕ
@@ -62,14 +60,14 @@ locks_from step = first_of (λ n. locked_of (lock_of (clean step n))) 15
 
 -- The example of "Reel file and listing" up to entry 9, as calls of the detector. Entry 0 is absent; the fields of the others have 1350 blocks
 -- each, of which `first` are busy in the leading field and `second` in the trailing.
-abbrev pub measured_busy : ℕ → ℕ → Measured
-measured_busy first second = Counts (record { busy = first; total = 1350 }) (record { busy = second; total = 1350 })
+abbrev pub measured_busy : ℕ → ℕ → Option Measured
+measured_busy first second = Some (record { leading = record { busy = first; total = 1350 }; trailing = record { busy = second; total = 1350 } })
 
 abbrev pub entry : ℕ → ℕ → Call
 entry first second = push (measured Top (measured_busy first second))
 
 abbrev pub to_entry0 : List Call
-to_entry0 = push (measured Top Absent) ∷ []
+to_entry0 = push (measured Top None) ∷ []
 
 abbrev pub to_entry9 : List Call
 to_entry9 =
@@ -101,8 +99,8 @@ cards =
     -- 10, 20, 10 in one column: comb 20.
     ∷ card (plane_comb (10 ∷ 20 ∷ 10 ∷ []) 1 3 8 1) 20
     -- After entry 9, ahead 0 gives None; ahead 4 Whole.
-    ∷ card (ahead_of 0) (cadence_number None)
-    ∷ card (ahead_of 4) (cadence_number Whole)
+    ∷ card (ahead_of 0) (cadence_number cadence.None)
+    ∷ card (ahead_of 4) (cadence_number cadence.Whole)
     ∷ []
 
 -- Of every card, the number that came is the one that docs/RULES.md says.

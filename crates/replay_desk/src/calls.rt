@@ -1,54 +1,109 @@
 // Made by tools/calls from the exports; not to be changed by hand.
-// The calls of crate `desk`, by their numbers in the list.
-use crate::names;
+// The calls of crate `desk`.
 use answers::lent;
+use std::fmt;
 
-// How many there are.
-pub const COUNT: usize = 11;
+// In the order of their numbers in the list.
+#[derive(Clone, Copy, Debug, PartialEq, Eq)]
+pub enum Call {
+    ToRgb,
+    Quantise,
+    Luma,
+    Comb,
+    CombRgba,
+    FirstField,
+    Edge,
+    Sample,
+    Plane,
+    Code,
+    At,
+}
 
-// A call's name at the desk without `desk_`, to standard output.
-pub fn say_name(call: usize) {
-    match call {
-        0 => names::say(b"to_rgb"),
-        1 => names::say(b"quantise"),
-        2 => names::say(b"luma"),
-        3 => names::say(b"comb"),
-        4 => names::say(b"comb_rgba"),
-        5 => names::say(b"first_field"),
-        6 => names::say(b"edge"),
-        7 => names::say(b"sample"),
-        8 => names::say(b"plane"),
-        9 => names::say(b"code"),
-        _ => names::say(b"at"),
+impl TryFrom<u64> for Call {
+    // A number of no call.
+    type Error = u64;
+
+    fn try_from(number: u64) -> Result<Call, u64> {
+        match number {
+            0 => Ok(Call::ToRgb),
+            1 => Ok(Call::Quantise),
+            2 => Ok(Call::Luma),
+            3 => Ok(Call::Comb),
+            4 => Ok(Call::CombRgba),
+            5 => Ok(Call::FirstField),
+            6 => Ok(Call::Edge),
+            7 => Ok(Call::Sample),
+            8 => Ok(Call::Plane),
+            9 => Ok(Call::Code),
+            10 => Ok(Call::At),
+            _ => Err(number),
+        }
+    }
+}
+
+// Its name at the desk without `desk_`.
+impl fmt::Display for Call {
+    fn fmt<W: fmt::Write>(&self, f: &mut fmt::Formatter<W>) -> fmt::Result {
+        f.write_str(match self {
+            Call::ToRgb => "to_rgb",
+            Call::Quantise => "quantise",
+            Call::Luma => "luma",
+            Call::Comb => "comb",
+            Call::CombRgba => "comb_rgba",
+            Call::FirstField => "first_field",
+            Call::Edge => "edge",
+            Call::Sample => "sample",
+            Call::Plane => "plane",
+            Call::Code => "code",
+            Call::At => "at",
+        })
+    }
+}
+
+impl Call {
+    // How many there are.
+    pub const COUNT: u64 = 11;
+
+    // Makes the call again, and says whether all of it came as expected. `state` and `store` are lent from record to record.
+    pub fn replayed(self, answer: &[u8], state: &mut [u8], store: &mut [u8]) -> bool {
+        match self {
+            Call::ToRgb => to_rgb(answer),
+            Call::Quantise => quantise(answer),
+            Call::Luma => luma(answer),
+            Call::Comb => comb(answer),
+            Call::CombRgba => comb_rgba(answer),
+            Call::FirstField => first_field(answer),
+            Call::Edge => edge(answer),
+            Call::Sample => sample(answer),
+            Call::Plane => plane(answer),
+            Call::Code => code(answer),
+            Call::At => at(answer),
+        }
     }
 }
 
 fn conversion(answer: &[u8], k: u8) -> colour::Conversion {
     colour::Conversion {
         luma_offset: answers::float(answer, k),
-        luma_gain: answers::float(answer, std::num::wrapping_add_u8(k, 1)),
-        chroma_offset: answers::float(answer, std::num::wrapping_add_u8(k, 2)),
-        chroma_gain: answers::float(answer, std::num::wrapping_add_u8(k, 3)),
-        kr: answers::float(answer, std::num::wrapping_add_u8(k, 4)),
-        kb: answers::float(answer, std::num::wrapping_add_u8(k, 5)),
-        luma_lift: answers::float(answer, std::num::wrapping_add_u8(k, 6)),
-        chroma_cos: answers::float(answer, std::num::wrapping_add_u8(k, 7)),
-        chroma_sin: answers::float(answer, std::num::wrapping_add_u8(k, 8)),
+        luma_gain: answers::float(answer, k.wrapping_add(1)),
+        chroma_offset: answers::float(answer, k.wrapping_add(2)),
+        chroma_gain: answers::float(answer, k.wrapping_add(3)),
+        kr: answers::float(answer, k.wrapping_add(4)),
+        kb: answers::float(answer, k.wrapping_add(5)),
+        luma_lift: answers::float(answer, k.wrapping_add(6)),
+        chroma_cos: answers::float(answer, k.wrapping_add(7)),
+        chroma_sin: answers::float(answer, k.wrapping_add(8)),
     }
 }
 
 fn plane_numbers(answer: &[u8], k: u8) -> numbers::PlaneNumbers {
     numbers::PlaneNumbers {
         width: answers::word(answer, k),
-        height: answers::word(answer, std::num::wrapping_add_u8(k, 1)),
-        depth: answers::word(answer, std::num::wrapping_add_u8(k, 2)),
-        stride: answers::word(answer, std::num::wrapping_add_u8(k, 3)),
-        layout: answers::word(answer, std::num::wrapping_add_u8(k, 4)),
+        height: answers::word(answer, k.wrapping_add(1)),
+        depth: answers::word(answer, k.wrapping_add(2)),
+        stride: answers::word(answer, k.wrapping_add(3)),
+        layout: answers::word(answer, k.wrapping_add(4)),
     }
-}
-
-fn wide(code: u16) -> u64 {
-    code as u64
 }
 
 fn to_rgb(answer: &[u8]) -> bool {
@@ -164,7 +219,10 @@ fn sample(answer: &[u8]) -> bool {
         & answers::same_float(value, answers::number(answer, 21))
 }
 
-fn plane_to(answer: &[u8], out: &mut [f32]) -> bool {
+fn plane(answer: &[u8]) -> bool {
+    let mut out = [lent::value(); 512];
+    let n = answers::room(answers::bytes(answer, 18, 3), 4096) / 8;
+    let out = &mut out[..n];
     let found = desk::filters::desk_plane(
         answers::byte(answer, 0),
         answers::byte(answer, 1),
@@ -181,13 +239,6 @@ fn plane_to(answer: &[u8], out: &mut [f32]) -> bool {
         & answers::same_floats(out, answers::bytes(answer, 18, 3))
 }
 
-fn plane(answer: &[u8]) -> bool {
-    let mut out = [lent::value(); 512];
-    let out_room = answers::room(answers::bytes(answer, 18, 3), 4096) / 8;
-    let gave = plane_to(answer, &mut out[0..out_room]);
-    gave
-}
-
 fn code(answer: &[u8]) -> bool {
     let mut code = lent::CODE;
     let found = desk::planes::desk_code(
@@ -199,7 +250,7 @@ fn code(answer: &[u8]) -> bool {
     );
     answers::whole(answer, 9, 1)
         & answers::same_byte(answer, 7, found)
-        & answers::same(answer, 8, wide(code))
+        & answers::same(answer, 8, u64::from(code))
 }
 
 fn at(answer: &[u8]) -> bool {
@@ -214,21 +265,4 @@ fn at(answer: &[u8]) -> bool {
     answers::whole(answer, 9, 1)
         & answers::same_byte(answer, 7, found)
         & answers::same_float(value, answers::number(answer, 8))
-}
-
-// Makes a call again, and says whether all of it came as expected. `state` and `store` are lent from record to record.
-pub fn replayed(call: usize, answer: &[u8], state: &mut [u8], store: &mut [u8]) -> bool {
-    match call {
-        0 => to_rgb(answer),
-        1 => quantise(answer),
-        2 => luma(answer),
-        3 => comb(answer),
-        4 => comb_rgba(answer),
-        5 => first_field(answer),
-        6 => edge(answer),
-        7 => sample(answer),
-        8 => plane(answer),
-        9 => code(answer),
-        _ => at(answer),
-    }
 }

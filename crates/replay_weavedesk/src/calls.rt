@@ -1,72 +1,131 @@
 // Made by tools/calls from the exports; not to be changed by hand.
-// The calls of crate `weavedesk`, by their numbers in the list.
-use crate::names;
+// The calls of crate `weavedesk`.
 use answers::lent;
+use std::fmt;
 
-// How many there are.
-pub const COUNT: usize = 9;
+// In the order of their numbers in the list.
+#[derive(Clone, Copy, Debug, PartialEq, Eq)]
+pub enum Call {
+    Weave,
+    LineNumber,
+    WovenLine,
+    Woven,
+    ReadbackSizes,
+    ReadbackCopy,
+    WeaverNew,
+    WeaverClear,
+    WeaverPush,
+}
 
-// A call's name at the desk without `desk_`, to standard output.
-pub fn say_name(call: usize) {
-    match call {
-        0 => names::say(b"weave"),
-        1 => names::say(b"line_number"),
-        2 => names::say(b"woven_line"),
-        3 => names::say(b"woven"),
-        4 => names::say(b"readback_sizes"),
-        5 => names::say(b"readback_copy"),
-        6 => names::say(b"weaver_new"),
-        7 => names::say(b"weaver_clear"),
-        _ => names::say(b"weaver_push"),
+impl TryFrom<u64> for Call {
+    // A number of no call.
+    type Error = u64;
+
+    fn try_from(number: u64) -> Result<Call, u64> {
+        match number {
+            0 => Ok(Call::Weave),
+            1 => Ok(Call::LineNumber),
+            2 => Ok(Call::WovenLine),
+            3 => Ok(Call::Woven),
+            4 => Ok(Call::ReadbackSizes),
+            5 => Ok(Call::ReadbackCopy),
+            6 => Ok(Call::WeaverNew),
+            7 => Ok(Call::WeaverClear),
+            8 => Ok(Call::WeaverPush),
+            _ => Err(number),
+        }
+    }
+}
+
+// Its name at the desk without `desk_`.
+impl fmt::Display for Call {
+    fn fmt<W: fmt::Write>(&self, f: &mut fmt::Formatter<W>) -> fmt::Result {
+        f.write_str(match self {
+            Call::Weave => "weave",
+            Call::LineNumber => "line_number",
+            Call::WovenLine => "woven_line",
+            Call::Woven => "woven",
+            Call::ReadbackSizes => "readback_sizes",
+            Call::ReadbackCopy => "readback_copy",
+            Call::WeaverNew => "weaver_new",
+            Call::WeaverClear => "weaver_clear",
+            Call::WeaverPush => "weaver_push",
+        })
+    }
+}
+
+impl Call {
+    // How many there are.
+    pub const COUNT: u64 = 9;
+
+    // Makes the call again, and says whether all of it came as expected. `state` and `store` are lent from record to record.
+    pub fn replayed(self, answer: &[u8], state: &mut [u8], store: &mut [u8]) -> bool {
+        match self {
+            Call::Weave => weave(answer),
+            Call::LineNumber => line_number(answer),
+            Call::WovenLine => woven_line(answer),
+            Call::Woven => woven(answer),
+            Call::ReadbackSizes => readback_sizes(answer),
+            Call::ReadbackCopy => readback_copy(answer),
+            Call::WeaverNew => weaver_new(answer, state),
+            Call::WeaverClear => weaver_clear(answer, state),
+            Call::WeaverPush => weaver_push(answer, state, store),
+        }
     }
 }
 
 fn grid_numbers(answer: &[u8], k: u8) -> numbers::GridNumbers {
     numbers::GridNumbers {
         width: answers::word(answer, k),
-        height: answers::word(answer, std::num::wrapping_add_u8(k, 1)),
-        depth: answers::word(answer, std::num::wrapping_add_u8(k, 2)),
-        stride: answers::word(answer, std::num::wrapping_add_u8(k, 3)),
+        height: answers::word(answer, k.wrapping_add(1)),
+        depth: answers::word(answer, k.wrapping_add(2)),
+        stride: answers::word(answer, k.wrapping_add(3)),
     }
 }
 
 fn field_numbers(answer: &[u8], k: u8) -> weavedesk::FieldNumbers {
-    let luma = grid_numbers(answer, k);
-    let cb = grid_numbers(answer, std::num::wrapping_add_u8(k, 4));
-    let cr = grid_numbers(answer, std::num::wrapping_add_u8(k, 8));
     weavedesk::FieldNumbers {
-        luma: luma,
-        cb: cb,
-        cr: cr,
+        luma: grid_numbers(answer, k),
+        cb: grid_numbers(answer, k.wrapping_add(4)),
+        cr: grid_numbers(answer, k.wrapping_add(8)),
     }
 }
 
 fn format_numbers(answer: &[u8], k: u8) -> weavedesk::FormatNumbers {
     weavedesk::FormatNumbers {
         width: answers::word(answer, k),
-        height: answers::word(answer, std::num::wrapping_add_u8(k, 1)),
-        depth: answers::word(answer, std::num::wrapping_add_u8(k, 2)),
-        rate_numerator: answers::word(answer, std::num::wrapping_add_u8(k, 3)),
-        rate_denominator: answers::word(answer, std::num::wrapping_add_u8(k, 4)),
-        field_pictures: answers::word(answer, std::num::wrapping_add_u8(k, 5)),
-        progressive: answers::word(answer, std::num::wrapping_add_u8(k, 6)),
-        woven: answers::word(answer, std::num::wrapping_add_u8(k, 7)),
+        height: answers::word(answer, k.wrapping_add(1)),
+        depth: answers::word(answer, k.wrapping_add(2)),
+        rate_numerator: answers::word(answer, k.wrapping_add(3)),
+        rate_denominator: answers::word(answer, k.wrapping_add(4)),
+        field_pictures: answers::word(answer, k.wrapping_add(5)),
+        progressive: answers::word(answer, k.wrapping_add(6)),
+        woven: answers::word(answer, k.wrapping_add(7)),
     }
 }
 
 fn readback_numbers(answer: &[u8], k: u8) -> weavedesk::ReadbackNumbers {
     weavedesk::ReadbackNumbers {
         planes: answers::word(answer, k),
-        width: answers::word(answer, std::num::wrapping_add_u8(k, 1)),
-        height: answers::word(answer, std::num::wrapping_add_u8(k, 2)),
-        depth: answers::word(answer, std::num::wrapping_add_u8(k, 3)),
-        luma_pitch: answers::word(answer, std::num::wrapping_add_u8(k, 4)),
-        second_pitch: answers::word(answer, std::num::wrapping_add_u8(k, 5)),
-        third_pitch: answers::word(answer, std::num::wrapping_add_u8(k, 6)),
+        width: answers::word(answer, k.wrapping_add(1)),
+        height: answers::word(answer, k.wrapping_add(2)),
+        depth: answers::word(answer, k.wrapping_add(3)),
+        luma_pitch: answers::word(answer, k.wrapping_add(4)),
+        second_pitch: answers::word(answer, k.wrapping_add(5)),
+        third_pitch: answers::word(answer, k.wrapping_add(6)),
     }
 }
 
-fn weave_to(answer: &[u8], out_luma: &mut [u8], out_cb: &mut [u8], out_cr: &mut [u8]) -> bool {
+fn weave(answer: &[u8]) -> bool {
+    let mut out_luma = [lent::BYTE; 4096];
+    let n = answers::room(answers::bytes(answer, 25, 6), 4096);
+    let out_luma = &mut out_luma[..n];
+    let mut out_cb = [lent::BYTE; 4096];
+    let n = answers::room(answers::bytes(answer, 25, 7), 4096);
+    let out_cb = &mut out_cb[..n];
+    let mut out_cr = [lent::BYTE; 4096];
+    let n = answers::room(answers::bytes(answer, 25, 8), 4096);
+    let out_cr = &mut out_cr[..n];
     let found = weavedesk::desk_weave(
         field_numbers(answer, 0),
         answers::bytes(answer, 25, 0),
@@ -87,22 +146,6 @@ fn weave_to(answer: &[u8], out_luma: &mut [u8], out_cb: &mut [u8], out_cr: &mut 
         & check::same(out_cr, answers::bytes(answer, 25, 8))
 }
 
-fn weave(answer: &[u8]) -> bool {
-    let mut out_luma = [lent::BYTE; 4096];
-    let mut out_cb = [lent::BYTE; 4096];
-    let mut out_cr = [lent::BYTE; 4096];
-    let out_luma_room = answers::room(answers::bytes(answer, 25, 6), 4096);
-    let out_cb_room = answers::room(answers::bytes(answer, 25, 7), 4096);
-    let out_cr_room = answers::room(answers::bytes(answer, 25, 8), 4096);
-    let gave = weave_to(
-        answer,
-        &mut out_luma[0..out_luma_room],
-        &mut out_cb[0..out_cb_room],
-        &mut out_cr[0..out_cr_room],
-    );
-    gave
-}
-
 fn line_number(answer: &[u8]) -> bool {
     let found = weavedesk::desk_line_number(
         grid_numbers(answer, 0),
@@ -114,7 +157,10 @@ fn line_number(answer: &[u8]) -> bool {
     answers::whole(answer, 12, 0) & answers::same_byte(answer, 11, found)
 }
 
-fn woven_line_to(answer: &[u8], out: &mut [u8]) -> bool {
+fn woven_line(answer: &[u8]) -> bool {
+    let mut out = [lent::BYTE; 4096];
+    let n = answers::room(answers::bytes(answer, 10, 2), 4096);
+    let out = &mut out[..n];
     let found = weavedesk::desk_woven_line(
         answers::bytes(answer, 10, 0),
         grid_numbers(answer, 0),
@@ -126,13 +172,6 @@ fn woven_line_to(answer: &[u8], out: &mut [u8]) -> bool {
     answers::whole(answer, 10, 3)
         & answers::same_byte(answer, 9, found)
         & check::same(out, answers::bytes(answer, 10, 2))
-}
-
-fn woven_line(answer: &[u8]) -> bool {
-    let mut out = [lent::BYTE; 4096];
-    let out_room = answers::room(answers::bytes(answer, 10, 2), 4096);
-    let gave = woven_line_to(answer, &mut out[0..out_room]);
-    gave
 }
 
 fn woven(answer: &[u8]) -> bool {
@@ -168,12 +207,16 @@ fn readback_sizes(answer: &[u8]) -> bool {
         & answers::same(answer, 10, cr_bytes)
 }
 
-fn readback_copy_to(
-    answer: &[u8],
-    out_luma: &mut [u8],
-    out_cb: &mut [u8],
-    out_cr: &mut [u8],
-) -> bool {
+fn readback_copy(answer: &[u8]) -> bool {
+    let mut out_luma = [lent::BYTE; 4096];
+    let n = answers::room(answers::bytes(answer, 8, 3), 4096);
+    let out_luma = &mut out_luma[..n];
+    let mut out_cb = [lent::BYTE; 4096];
+    let n = answers::room(answers::bytes(answer, 8, 4), 4096);
+    let out_cb = &mut out_cb[..n];
+    let mut out_cr = [lent::BYTE; 4096];
+    let n = answers::room(answers::bytes(answer, 8, 5), 4096);
+    let out_cr = &mut out_cr[..n];
     let found = weavedesk::desk_readback_copy(
         readback_numbers(answer, 0),
         answers::bytes(answer, 8, 0),
@@ -190,46 +233,40 @@ fn readback_copy_to(
         & check::same(out_cr, answers::bytes(answer, 8, 5))
 }
 
-fn readback_copy(answer: &[u8]) -> bool {
-    let mut out_luma = [lent::BYTE; 4096];
-    let mut out_cb = [lent::BYTE; 4096];
-    let mut out_cr = [lent::BYTE; 4096];
-    let out_luma_room = answers::room(answers::bytes(answer, 8, 3), 4096);
-    let out_cb_room = answers::room(answers::bytes(answer, 8, 4), 4096);
-    let out_cr_room = answers::room(answers::bytes(answer, 8, 5), 4096);
-    let gave = readback_copy_to(
-        answer,
-        &mut out_luma[0..out_luma_room],
-        &mut out_cb[0..out_cb_room],
-        &mut out_cr[0..out_cr_room],
-    );
-    gave
-}
-
 fn weaver_new(answer: &[u8], state: &mut [u8]) -> bool {
     let asked = answers::number(answer, 0);
-    let n = lent::part(asked, state.len());
     let there = asked <= state.len() as u64;
-    let found = weavedesk::desk_weaver_new(&mut state[0..n]);
+    let n = lent::part(asked, state.len());
+    let state = &mut state[..n];
+    let found = weavedesk::desk_weaver_new(state);
     answers::whole(answer, 2, 0) & there & answers::same_byte(answer, 1, found)
 }
 
 fn weaver_clear(answer: &[u8], state: &mut [u8]) -> bool {
     let asked = answers::number(answer, 0);
-    let n = lent::part(asked, state.len());
     let there = asked <= state.len() as u64;
-    let found = weavedesk::desk_weaver_clear(&mut state[0..n]);
+    let n = lent::part(asked, state.len());
+    let state = &mut state[..n];
+    let found = weavedesk::desk_weaver_clear(state);
     answers::whole(answer, 2, 0) & there & answers::same_byte(answer, 1, found)
 }
 
-fn weaver_push_made(
-    answer: &[u8],
-    state: &mut [u8],
-    store: &mut [u8],
-    out_luma: &mut [u8],
-    out_cb: &mut [u8],
-    out_cr: &mut [u8],
-) -> bool {
+fn weaver_push(answer: &[u8], state: &mut [u8], store: &mut [u8]) -> bool {
+    let asked = answers::number(answer, 0);
+    let there = asked <= state.len() as u64;
+    let n = lent::part(asked, state.len());
+    let state = &mut state[..n];
+    let n = answers::room(answers::bytes(answer, 20, 3), store.len());
+    let store = &mut store[..n];
+    let mut out_luma = [lent::BYTE; 4096];
+    let n = answers::room(answers::bytes(answer, 20, 4), 4096);
+    let out_luma = &mut out_luma[..n];
+    let mut out_cb = [lent::BYTE; 4096];
+    let n = answers::room(answers::bytes(answer, 20, 5), 4096);
+    let out_cb = &mut out_cb[..n];
+    let mut out_cr = [lent::BYTE; 4096];
+    let n = answers::room(answers::bytes(answer, 20, 6), 4096);
+    let out_cr = &mut out_cr[..n];
     let mut picture = lent::BYTE;
     let mut earlier_timed = lent::BYTE;
     let mut earlier_time = lent::LONG;
@@ -250,60 +287,14 @@ fn weaver_push_made(
         &mut earlier_timed,
         &mut earlier_time,
     );
-    answers::same_byte(answer, 16, found)
+    answers::whole(answer, 20, 7)
+        & there
+        & answers::same_byte(answer, 16, found)
         & answers::same_byte(answer, 17, picture)
         & answers::same_byte(answer, 18, earlier_timed)
         & (earlier_time == answers::long(answer, 19))
-}
-
-fn weaver_push_to(
-    answer: &[u8],
-    state: &mut [u8],
-    store: &mut [u8],
-    out_luma: &mut [u8],
-    out_cb: &mut [u8],
-    out_cr: &mut [u8],
-) -> bool {
-    let made = weaver_push_made(answer, state, store, out_luma, out_cb, out_cr);
-    made & check::same(store, answers::bytes(answer, 20, 3))
+        & check::same(store, answers::bytes(answer, 20, 3))
         & check::same(out_luma, answers::bytes(answer, 20, 4))
         & check::same(out_cb, answers::bytes(answer, 20, 5))
         & check::same(out_cr, answers::bytes(answer, 20, 6))
-}
-
-fn weaver_push(answer: &[u8], state: &mut [u8], store: &mut [u8]) -> bool {
-    let asked = answers::number(answer, 0);
-    let n = lent::part(asked, state.len());
-    let there = asked <= state.len() as u64;
-    let mut out_luma = [lent::BYTE; 4096];
-    let mut out_cb = [lent::BYTE; 4096];
-    let mut out_cr = [lent::BYTE; 4096];
-    let store_room = answers::room(answers::bytes(answer, 20, 3), store.len());
-    let out_luma_room = answers::room(answers::bytes(answer, 20, 4), 4096);
-    let out_cb_room = answers::room(answers::bytes(answer, 20, 5), 4096);
-    let out_cr_room = answers::room(answers::bytes(answer, 20, 6), 4096);
-    let gave = weaver_push_to(
-        answer,
-        &mut state[0..n],
-        &mut store[0..store_room],
-        &mut out_luma[0..out_luma_room],
-        &mut out_cb[0..out_cb_room],
-        &mut out_cr[0..out_cr_room],
-    );
-    answers::whole(answer, 20, 7) & there & gave
-}
-
-// Makes a call again, and says whether all of it came as expected. `state` and `store` are lent from record to record.
-pub fn replayed(call: usize, answer: &[u8], state: &mut [u8], store: &mut [u8]) -> bool {
-    match call {
-        0 => weave(answer),
-        1 => line_number(answer),
-        2 => woven_line(answer),
-        3 => woven(answer),
-        4 => readback_sizes(answer),
-        5 => readback_copy(answer),
-        6 => weaver_new(answer, state),
-        7 => weaver_clear(answer, state),
-        _ => weaver_push(answer, state, store),
-    }
 }

@@ -1,9 +1,0 @@
-// What is written to standard output. Where that fails, nothing more can be done.
-
-pub fn say(text: &[u8]) {
-    io::write_all(1, text);
-}
-
-pub fn say_number(n: u64) {
-    io::print_decimal(1, n);
-}
