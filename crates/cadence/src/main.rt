@@ -32,7 +32,7 @@ fn read(rt: &HostRuntime, buffer: &mut [u8], from: usize) -> usize
     ensures upper_bound { result ≤ length buffer.old - from }
     ensures buffer_unchanged { take (min from (length buffer.old)) buffer.new ≡ take (min from (length buffer.old)) buffer.old }
 {
-    let start = pages::least(from, buffer.len());
+    let start = from.min(buffer.len());
     let part = &mut buffer[start..];
     match rt.stdin().read(part) {
         Ok(n) => n,
@@ -49,7 +49,7 @@ fn read(rt: &HostRuntime, buffer: &mut [u8], from: usize) -> usize
 fn front<'a>(page: &'a [u8], n: usize) -> &'a [u8]
     ensures { result.now ≡ take n page.now }
 {
-    let end = pages::least(n, page.len());
+    let end = n.min(page.len());
     &page[0..end]
 }
 

@@ -15,7 +15,7 @@ use pages::{Ask, Held};
 
 // Reads into the buffer from a place on, until it is full or the list ends, and answers how many bytes came.
 fn read(buffer: &mut [u8], from: usize) -> usize {
-    let start = pages::least(from, buffer.len());
+    let start = from.min(buffer.len());
     io::read_full(0, &mut buffer[start..])
 }
 
