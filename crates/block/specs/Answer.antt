@@ -4,18 +4,7 @@ use Rattle.laws.specs.Refusal.{lowest, when_done}
 use Rattle.plane.specs.declared.Shape.{Shape}
 use Rattle.plane.specs.Plane.{good_shape, plane_bytes}
 use Rattle.block.specs.declared.Counts.{Counts}
-use Rattle.block.specs.declared.Counted.{Counted}
-use Rattle.block.specs.declared.Counted.TheVariants.{Value, Refused}
 use Rattle.block.specs.Block.{busy_field, total_of, rows_of}
-
--- An answer by its cases: a value is number 0 and that value, a refusal its number and no value.
-abbrev pub counted_no : Counted → ℕ
-counted_no (Value counts) = 0
-counted_no (Refused n) = n
-
-abbrev pub counted_values : Counted → List Counts
-counted_values (Value counts) = counts ∷ []
-counted_values (Refused n) = []
 
 -- busy and all blocks of a field
 abbrev pub counts_of : List ℕ → Shape → List ℕ → ℕ → Counts

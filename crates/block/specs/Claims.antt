@@ -5,9 +5,8 @@ use Rattle.laws.specs.Rows.{over}
 use Rattle.laws.specs.Sums.{apart}
 use Rattle.plane.specs.declared.Shape.{Shape}
 use Rattle.plane.specs.Plane.{word_of, full_code, code_of}
-use Rattle.block.specs.declared.Counted.{Counted}
 use Rattle.block.specs.Block.{kept_of, kept_frame, stored_of, busy_of, busy_field}
-use Rattle.block.specs.Answer.{counted_no, counted_values, count_tests, keep_tests}
+use Rattle.block.specs.Answer.{count_tests, keep_tests}
 
 -- `count` gives 4 exactly when the shape is outside the bounds, 6 exactly when only the plane or the store is too short, 0 exactly when neither
 abbrev pub CountSays : Type 0
@@ -16,10 +15,6 @@ CountSays = (s : Shape) (bytes room : ℕ) → Says (count_tests s bytes room)
 -- `keep` likewise, with 7 exactly when only the store is too short
 abbrev pub KeepSays : Type 0
 KeepSays = (s : Shape) (bytes room : ℕ) → Says (keep_tests s bytes room)
-
--- number and values leave no choice: a contract that settles both settles the answer
-abbrev pub OneCounted : Type 0
-OneCounted = (a b : Counted) → counted_no a ≡ counted_no b → counted_values a ≡ counted_values b → a ≡ b
 
 -- a code has no bit above its depth, so that the remainder drops nothing: its upper 8 bits are kept
 abbrev pub KeptIsUpper : Type 0

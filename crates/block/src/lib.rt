@@ -8,28 +8,24 @@
 
 ghost use Rattle.std.specs.Prelude.{◌≡◌, ◌+◌, ◌*◌, ◌/◌, ◌%◌, ◌^◌, ◌<◌, ◌≤◌, min, ltb, length, get_or, take, drop};
 ghost use Rattle.laws.specs.Refusal.{written};
+ghost use Rattle.refusal.specs.Refusal.{no_of, values_of};
 ghost use Rattle.laws.specs.Rows.{listed, over};
-ghost use Rattle.laws.specs.Sums.{sum_over, apart};
+ghost use Rattle.laws.specs.Sums.{sum_over};
 ghost use Rattle.field.specs.Field.{first_row_of};
 ghost use Rattle.plane.specs.Plane.{grid_shape};
 ghost use Rattle.block.specs.Block.{kept_of, kept_frame, rows_of, one_if, differs, blocks_across, bands_down, total_of, busy_field};
-ghost use Rattle.block.specs.Answer.{counted_no, counted_values, counts_of, count_no, count_values, keep_no};
+ghost use Rattle.block.specs.Answer.{counts_of, count_no, count_values, keep_no};
 ghost use Rattle.block.specs.Rows.{PictureReady, RowReady, KeptRow, pair_kept};
 ghost use Rattle.block.specs.Counters.{differing_lists, differing_row, band_row, busy_by, Counters, Added};
 
-use plane::Grid;
+use plane::{Grid, Shape};
+use refusal::Refusal;
 
 // Busy blocks, and all blocks, of a field.
-#[derive(Clone, Copy)]
+#[derive(Clone, Copy, Debug, PartialEq, Eq)]
 pub struct Counts {
     pub busy: u64,
     pub total: u64,
-}
-
-#[derive(Clone, Copy)]
-pub enum Counted {
-    Value(Counts),
-    Refused(u8),
 }
 
 // A part of n bytes.
@@ -41,12 +37,6 @@ fn part_at(bytes: &[u8], start: usize, n: usize) -> &[u8]
 }
 
 // ---- rows as they are kept
-
-fn wide(byte: u8) -> u16
-    ensures { (result ≡ byte) × (result < 256) }
-{
-    byte as u16
-}
 
 fn upper(word: u16, right: u16) -> u16
     requires { right ≤ 8 }
@@ -61,30 +51,17 @@ fn modulo_256(code: u16) -> u16
     code % 256
 }
 
-// A row of one byte a sample, and one of two. The loops run over parts, so that the compiler drops
-// every index test and vectorises them. A code is cut at 255 behind its shift, which comes to the same as
-// at the largest code before it.
-fn keep_bytes(to: &mut [u8], row: &[u8])
-    requires { length row.now ≡ length to.old }
-    ensures { to.new ≡ listed (length to.old) (λ x. get_or row.now x 0) }
+// A row of two bytes a sample. The loop runs over a part, so that the compiler drops every index test and
+// vectorises it. A code is cut at 255 behind its shift, which comes to the same as at the largest code
+// before it.
+fn keep_pairs<const RIGHT: u16>(to: &mut [u8], row: &[u8])
+    requires { (length row.now ≡ length to.old * 2) × (RIGHT ≤ 8) }
+    ensures { to.new ≡ listed (length to.old) (pair_kept row.now RIGHT) }
 {
-    let mut x = 0;
-    while x < to.len() {
-        to[x] = row[x];
-        x += 1;
-    }
-}
-
-fn keep_pairs(to: &mut [u8], row: &[u8], right: u16)
-    requires { (length row.now ≡ length to.old * 2) × (right ≤ 8) }
-    ensures { to.new ≡ listed (length to.old) (pair_kept row.now right) }
-{
-    let mut x = 0;
-    while x < to.len() {
+    for x in 0..to.len() {
         let i = x * 2;
-        let word = wide(row[i]) + 256 * wide(row[i + 1]);
-        to[x] = modulo_256(plane::cut(upper(word, right), 255)) as u8;
-        x += 1;
+        let word = u16::from(row[i]) + 256 * u16::from(row[i + 1]);
+        to[x] = modulo_256(upper(word, RIGHT).min(255)) as u8;
     }
 }
 
@@ -94,14 +71,14 @@ fn keep_deep(to: &mut [u8], row: &[u8], right: u16)
     ensures { to.new ≡ listed (length to.old) (pair_kept row.now right) }
 {
     match right {
-        1 => keep_pairs(to, row, 1),
-        2 => keep_pairs(to, row, 2),
-        3 => keep_pairs(to, row, 3),
-        4 => keep_pairs(to, row, 4),
-        5 => keep_pairs(to, row, 5),
-        6 => keep_pairs(to, row, 6),
-        7 => keep_pairs(to, row, 7),
-        _ => keep_pairs(to, row, 8),
+        1 => keep_pairs::<1>(to, row),
+        2 => keep_pairs::<2>(to, row),
+        3 => keep_pairs::<3>(to, row),
+        4 => keep_pairs::<4>(to, row),
+        5 => keep_pairs::<5>(to, row),
+        6 => keep_pairs::<6>(to, row),
+        7 => keep_pairs::<7>(to, row),
+        _ => keep_pairs::<8>(to, row),
     }
 }
 
@@ -110,7 +87,7 @@ fn byte_row(plane: &[u8], grid: Grid, y: usize) -> &[u8]
     requires { RowReady (grid_shape grid) (length plane.now) y × (grid.depth ≤ 8) }
     ensures { KeptRow result.now plane.now (grid_shape grid) y }
 {
-    part_at(plane, y * (grid.stride as usize), grid.width as usize)
+    part_at(plane, y * (grid.stride as usize), usize::from(grid.width))
 }
 
 // Row y of a picture, kept in a place of just its width.
@@ -119,29 +96,22 @@ fn keep_row(to: &mut [u8], plane: &[u8], grid: Grid, y: usize)
     ensures { to.new ≡ listed grid.width (λ x. kept_of plane.now (grid_shape grid) x y) }
 {
     if grid.depth <= 8 {
-        keep_bytes(to, byte_row(plane, grid, y));
+        to.copy_from_slice(byte_row(plane, grid, y));
         return;
     }
     let start = y * (grid.stride as usize);
-    let bytes = (grid.width as usize) * 2;
-    let right = grid.depth as u16 - 8;
+    let bytes = usize::from(grid.width) * 2;
+    let right = u16::from(grid.depth) - 8;
     keep_deep(to, part_at(plane, start, bytes), right);
 }
 
 // ---- blocks
 
-// |a - b|.
-fn distance(a: u8, b: u8) -> u8
-    ensures { result ≡ apart a b }
-{
-    if a < b { b - a } else { a - b }
-}
-
 // 1 where two samples differ, else 0.
 fn differ(a: u8, b: u8) -> u8
     ensures { (result ≡ one_if (differs a b)) × (result ≤ 1) }
 {
-    if 8 < distance(a, b) { 1 } else { 0 }
+    if 8 < a.abs_diff(b) { 1 } else { 0 }
 }
 
 // How many samples of two parts of a row differ. Sixteen at most, so a byte holds the sum, and the loop
@@ -151,19 +121,10 @@ fn differ_in(a: &[u8], b: &[u8]) -> u32
     ensures { (result ≡ sum_over (length a.now) (λ x. one_if (differs (get_or a.now x 0) (get_or b.now x 0)))) × (result ≤ 16) }
 {
     let mut n: u8 = 0;
-    let mut x = 0;
-    while x < a.len() {
-        n += differ(a[x], b[x]);
-        x += 1;
+    for (new, old) in a.iter().zip(b) {
+        n += differ(*new, *old);
     }
-    n as u32
-}
-
-// A block's side, or what is left at the edge.
-fn lesser(side: usize, left: usize) -> usize
-    ensures { result ≡ min side left }
-{
-    if side <= left { side } else { left }
+    u32::from(n)
 }
 
 // Blocks across a row, and bands down a field.
@@ -171,14 +132,14 @@ fn across(width: usize) -> usize
     requires { width ≤ 65535 }
     ensures { (result ≡ blocks_across width) × (result ≤ 4096) }
 {
-    (width + 15) / 16
+    width.div_ceil(16)
 }
 
 fn bands(rows: usize) -> usize
     requires { rows ≤ 32768 }
     ensures { (result ≡ bands_down rows) × (result ≤ 4096) }
 {
-    (rows + 7) / 8
+    rows.div_ceil(8)
 }
 
 // Adds to the counter of each block of 16 columns the differing samples of two rows there.
@@ -188,14 +149,10 @@ fn add_row(counters: &mut [u32; 512], new: &[u8], old: &[u8])
     ensures added { Added counters.old counters.new (differing_lists new.now old.now) (blocks_across (length new.now)) }
 {
     let width = new.len();
-    let blocks = across(width);
-    let mut b = 0;
-    while b < blocks {
+    for b in 0..across(width) {
         let start = 16 * b;
-        let n = lesser(16, width - start);
-        let more = differ_in(part_at(new, start, n), part_at(old, start, n));
-        counters[b] += more;
-        b += 1;
+        let n = (width - start).min(16);
+        counters[b] += differ_in(part_at(new, start, n), part_at(old, start, n));
     }
 }
 
@@ -212,7 +169,7 @@ fn add_row_of(
     ensures counters_len { length counters.new ≡ 512 }
     ensures added { Added counters.old counters.new (differing_row plane.now (grid_shape grid) store.now y) (blocks_across grid.width) }
 {
-    let width = grid.width as usize;
+    let width = usize::from(grid.width);
     let old = part_at(store, y * width, width);
     if grid.depth <= 8 {
         add_row(counters, byte_row(plane, grid, y), old);
@@ -239,13 +196,10 @@ fn busy_in(counters: &[u32; 512], width: usize, rows: usize) -> u64
     requires { Counters counters.now width × (rows ≤ 8) }
     ensures { (result ≡ busy_by width rows (λ b. get_or counters.now b 0)) × (result ≤ 512) }
 {
-    let blocks = across(width);
     let mut busy: u64 = 0;
-    let mut b = 0;
-    while b < blocks {
-        let n = lesser(16, width - 16 * b);
+    for b in 0..across(width) {
+        let n = (width - 16 * b).min(16);
         busy += busy_if(counters[b], n * rows);
-        b += 1;
     }
     busy
 }
@@ -264,13 +218,11 @@ fn band(
     ensures { (result ≡ busy_by grid.width rows (λ b. sum_over rows (λ i. band_row plane.now (grid_shape grid) store.now first top i b))) × (result ≤ 512) }
 {
     let mut counters = [0u32; 512];
-    let mut i = 0;
-    while i < rows {
+    for i in 0..rows {
         let y = 2 * (top + i) + first;
         add_row_of(&mut counters, row, plane, grid, store, y);
-        i += 1;
     }
-    busy_in(&counters, grid.width as usize, rows)
+    busy_in(&counters, usize::from(grid.width), rows)
 }
 
 // The busy blocks of a field, whose rows are every second one from `first` on.
@@ -285,13 +237,10 @@ fn busy_rows(
     requires { PictureReady (grid_shape grid) (length plane.now) (length store.now) × (first ≤ 1) × (rows ≡ rows_of grid.height first) × (length row.old ≡ grid.width) }
     ensures { result ≡ busy_field plane.now (grid_shape grid) store.now first }
 {
-    let n = bands(rows);
     let mut busy: u64 = 0;
-    let mut k = 0;
-    while k < n {
+    for k in 0..bands(rows) {
         let top = 8 * k;
-        busy += band(row, plane, grid, store, first, top, lesser(8, rows - top));
-        k += 1;
+        busy += band(row, plane, grid, store, first, top, (rows - top).min(8));
     }
     busy
 }
@@ -300,14 +249,14 @@ fn rows_of(height: u16, first: usize) -> usize
     requires { first ≤ 1 }
     ensures { (result ≡ rows_of height first) × (result ≤ 32768) }
 {
-    (height as usize + 1 - first) / 2
+    (usize::from(height) + 1 - first) / 2
 }
 
 fn total_of(width: u16, rows: usize) -> u64
     requires { rows ≤ 32768 }
     ensures { result ≡ total_of width rows }
 {
-    (across(width as usize) * bands(rows)) as u64
+    (across(usize::from(width)) * bands(rows)) as u64
 }
 
 // The buffer for rows that are kept first is made once.
@@ -316,11 +265,11 @@ fn counts_of(plane: &[u8], grid: Grid, store: &[u8], first: usize) -> Counts
     ensures { result ≡ counts_of plane.now (grid_shape grid) store.now first }
 {
     let mut row = [0u8; 8192];
-    let width = grid.width as usize;
+    let width = usize::from(grid.width);
     let rows = rows_of(grid.height, first);
     let busy = busy_rows(&mut row[0..width], plane, grid, store, first, rows);
     Counts {
-        busy: busy,
+        busy,
         total: total_of(grid.width, rows),
     }
 }
@@ -331,36 +280,28 @@ fn counts_of(plane: &[u8], grid: Grid, store: &[u8], first: usize) -> Counts
 fn frame_bytes(grid: Grid) -> usize
     ensures { result ≡ grid.height * grid.width }
 {
-    (grid.height as usize) * (grid.width as usize)
+    usize::from(grid.height) * usize::from(grid.width)
 }
 
-fn count_no(grid: Grid, bytes: usize, room: usize) -> u8
-    ensures { result ≡ count_no (grid_shape grid) bytes room }
-{
-    let shape = plane::shape_of(grid);
-    let good = plane::good_shape(shape);
-    let long = (plane::plane_bytes(shape) <= bytes) & (frame_bytes(grid) <= room);
-    refusal::test(
-        refusal::SHAPE,
-        good,
-        refusal::test(refusal::SHORT_INPUT, long, refusal::DONE),
-    )
-}
-
+// Whether a picture of so many bytes can be counted against a store. Numbers 4 and 6.
 #[tactic(auto, unfolding(laws::specs::Refusal::lowest))]
-fn keep_no(grid: Grid, bytes: usize, room: usize) -> u8
-    ensures { result ≡ keep_no (grid_shape grid) bytes room }
+fn countable(grid: Grid, bytes: usize, room: usize) -> Result<(), Refusal>
+    ensures { no_of result ≡ count_no (grid_shape grid) bytes room }
 {
-    let shape = plane::shape_of(grid);
-    let good = plane::good_shape(shape);
-    let long = plane::plane_bytes(shape) <= bytes;
-    let fits = frame_bytes(grid) <= room;
-    let output = refusal::test(refusal::SHORT_OUTPUT, fits, refusal::DONE);
-    refusal::test(
-        refusal::SHAPE,
-        good,
-        refusal::test(refusal::SHORT_INPUT, long, output),
-    )
+    let shape = Shape::from(grid);
+    Refusal::Shape.unless(shape.is_good())?;
+    Refusal::ShortInput.unless((shape.bytes() <= bytes) & (frame_bytes(grid) <= room))
+}
+
+// Whether it can be kept there. Numbers 4, 6 and 7.
+#[tactic(auto, unfolding(laws::specs::Refusal::lowest))]
+fn keepable(grid: Grid, bytes: usize, room: usize) -> Result<(), Refusal>
+    ensures { no_of result ≡ keep_no (grid_shape grid) bytes room }
+{
+    let shape = Shape::from(grid);
+    Refusal::Shape.unless(shape.is_good())?;
+    Refusal::ShortInput.unless(shape.bytes() <= bytes)?;
+    Refusal::ShortOutput.unless(frame_bytes(grid) <= room)
 }
 
 // ---- the calls
@@ -368,16 +309,17 @@ fn keep_no(grid: Grid, bytes: usize, room: usize) -> u8
 // The counts of the field of a parity of a picture, against the same parity of the frame of that size
 // which the store keeps. Codes are not shifted, and one above the largest of its depth counts as that: a
 // biplanar luma deeper than 8 bits, whose codes stand in the high bits, goes through readback first.
-pub fn count(plane: &[u8], grid: plane::Grid, store: &[u8], parity: field::Parity) -> Counted
-    ensures result_value { counted_no result ≡ count_no (grid_shape grid) (length plane.now) (length store.now) }
-    ensures result_value_2 { counted_values result ≡ count_values plane.now (grid_shape grid) store.now (first_row_of parity) }
+pub fn count(
+    plane: &[u8],
+    grid: plane::Grid,
+    store: &[u8],
+    parity: field::Parity,
+) -> Result<Counts, Refusal>
+    ensures result_value { no_of result ≡ count_no (grid_shape grid) (length plane.now) (length store.now) }
+    ensures result_value_2 { values_of result ≡ count_values plane.now (grid_shape grid) store.now (first_row_of parity) }
 {
-    let no = count_no(grid, plane.len(), store.len());
-    if no == 0 {
-        Counted::Value(counts_of(plane, grid, store, parity.first_row() as usize))
-    } else {
-        Counted::Refused(no)
-    }
+    countable(grid, plane.len(), store.len())?;
+    Ok(counts_of(plane, grid, store, parity.first_row() as usize))
 }
 
 // Each row of a picture, kept behind the one above it.
@@ -385,24 +327,19 @@ fn keep_rows(store: &mut [u8], plane: &[u8], grid: Grid)
     requires { PictureReady (grid_shape grid) (length plane.now) (length store.old) }
     ensures { store.new ≡ over (kept_frame plane.now (grid_shape grid)) store.old }
 {
-    let width = grid.width as usize;
-    let height = grid.height as usize;
-    let mut y = 0;
-    while y < height {
+    let width = usize::from(grid.width);
+    for y in 0..usize::from(grid.height) {
         let start = y * width;
         keep_row(&mut store[start..start + width], plane, grid, y);
-        y += 1;
     }
 }
 
 // Keeps a picture, its codes read as for `count`, as 8 bits at the store's front.
-pub fn keep(store: &mut [u8], plane: &[u8], grid: plane::Grid) -> u8
-    ensures value { result ≡ keep_no (grid_shape grid) (length plane.now) (length store.old) }
-    ensures store_after { store.new ≡ written result (over (kept_frame plane.now (grid_shape grid)) store.old) store.old }
+pub fn keep(store: &mut [u8], plane: &[u8], grid: plane::Grid) -> Result<(), Refusal>
+    ensures value { no_of result ≡ keep_no (grid_shape grid) (length plane.now) (length store.old) }
+    ensures store_after { store.new ≡ written (no_of result) (over (kept_frame plane.now (grid_shape grid)) store.old) store.old }
 {
-    let no = keep_no(grid, plane.len(), store.len());
-    if no == 0 {
-        keep_rows(store, plane, grid);
-    }
-    no
+    keepable(grid, plane.len(), store.len())?;
+    keep_rows(store, plane, grid);
+    Ok(())
 }

@@ -15,14 +15,12 @@ use Rattle.laws.specs.Refusal.{rising}
 use Rattle.laws.proofs.Bools.{clash, and_left, and_right}
 use Rattle.laws.proofs.Claims.{lowest_says}
 use Rattle.float.proofs.Range.{unit_whole_quotient, whole_by_itself}
-use Rattle.plane.specs.declared.Sampled.TheVariants as sampled
-use Rattle.plane.specs.declared.Coded.TheVariants as coded
 use Rattle.plane.specs.declared.Shape.{Shape}
 use Rattle.plane.specs.declared.Layout.{Layout}
 use Rattle.plane.specs.declared.Layout.TheVariants.{Planar, Luma, First, Second}
 use Rattle.plane.specs.Plane.{components, component, sample_bytes, biplanar, stored_at, start_of, shift, word_of, full_code, code_of, value_of}
 use Rattle.plane.specs.Coordinates.{held, parity_of, bias_of}
-use Rattle.plane.specs.Claims.{AtSays, CodeSays, OneSampled, OneCoded, AllBytes, CodeWithinDepth, ValueInUnit, WordWithinIsCode, WordAboveIsFull, WordAboveIsOne, FullIsLargest, may_exceed, TheseExceed, OthersAreWithin, OneSampleOfTen, BiasKeeps, BiasIsEven, ParityIsEuclidean}
+use Rattle.plane.specs.Claims.{AtSays, CodeSays, AllBytes, CodeWithinDepth, ValueInUnit, WordWithinIsCode, WordAboveIsFull, WordAboveIsOne, FullIsLargest, may_exceed, TheseExceed, OthersAreWithin, OneSampleOfTen, BiasKeeps, BiasIsEven, ParityIsEuclidean}
 use Rattle.plane.proofs.Full.{full_least, full_most, full_short, full_long, full_low}
 use Rattle.plane.proofs.Places.{no_shift}
 use Rattle.plane.proofs.Coordinates.{unbiased_bias, parity_unbiased}
@@ -35,24 +33,6 @@ at_says s bytes x y = lowest_says _ tt
 pub code_says : CodeSays
 unfolding rising
 code_says s bytes x y = lowest_says _ tt
-
-first : {A : Type 0} → A → List A → A
-first a [] = a
-first a (x ∷ rest) = x
-
-pub one_sampled : OneSampled
-unfolding first
-one_sampled (sampled.Value v) (sampled.Value w) p q = ap (λ (l : List Float). sampled.Value (first v l)) q
-one_sampled (sampled.Value v) (sampled.Refused n) p q = absurd (cons≢nil q)
-one_sampled (sampled.Refused n) (sampled.Value w) p q = absurd (nil≢cons q)
-one_sampled (sampled.Refused n) (sampled.Refused m) p q = ap sampled.Refused p
-
-pub one_coded : OneCoded
-unfolding first
-one_coded (coded.Value v) (coded.Value w) p q = ap (λ (l : List ℕ). coded.Value (first v l)) q
-one_coded (coded.Value v) (coded.Refused n) p q = absurd (cons≢nil q)
-one_coded (coded.Refused n) (coded.Value w) p q = absurd (nil≢cons q)
-one_coded (coded.Refused n) (coded.Refused m) p q = ap coded.Refused p
 
 -- ---- codes and values
 pub code_within_depth : CodeWithinDepth

@@ -278,6 +278,7 @@ pub fn code_at(plane: &[u8], s: Shape, x: u16, y: u16) -> u16
 }
 
 // The coordinate c - 65,544 brought into 0 .. size - 1.
+#[tactic(auto, using(crate::proofs::Coordinates::held_is))]
 fn hold(size: u16, c: u32) -> u32
     ensures { (result ≡ held size (unbiased c)) × (result ≤ 65535) }
 {

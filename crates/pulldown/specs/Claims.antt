@@ -1,16 +1,13 @@
 -- What is claimed of runs and of the lock (docs/RULES.md, "Runs, phases, cadence", "What the desk gets back", and demand 3).
 -- proofs/Claims.antt proves each claim under its name in small letters. Lists are newest first. A reset gives the fresh lock, so a
 -- history starts fresh here.
-use Rattle.std.specs.Prelude.{ℕ, ◌+◌, min, ◌<◌, ◌≤◌, ◌≡◌, ◌↔◌, true, false, List, [], ◌∷◌, ◌++◌, length, drop}
+use Rattle.std.specs.Prelude.{ℕ, ◌+◌, min, ◌<◌, ◌≤◌, ◌≡◌, ◌↔◌, true, false, List, [], ◌∷◌, ◌++◌, length, drop, Option, Some, None}
 use Rattle.field.specs.declared.Cadence.{Cadence}
-use Rattle.field.specs.declared.Cadence.TheVariants.{None}
+use Rattle.field.specs.declared.Cadence.TheVariants as cadence
 use Rattle.pulldown.specs.declared.Symbol.{Symbol}
-use Rattle.pulldown.specs.declared.Seen.{Seen}
-use Rattle.pulldown.specs.declared.Seen.TheVariants as seen
-use Rattle.pulldown.specs.declared.Answer.{Answer}
 use Rattle.pulldown.specs.Table.{cadence_at}
 use Rattle.pulldown.specs.Runs.{Frame, frame_of, step_of, still_or_expected, Meets, meets, phase_of, lock_frame, run_of, foretold}
-use Rattle.pulldown.specs.Lock.{answer_no, answer_values, locked_of, push_no, push_cadence, push_lock, predict_no, predict_cadence, lock_of}
+use Rattle.pulldown.specs.Lock.{locked_of, push_no, push_cadence, push_lock, predict_no, predict_cadence, lock_of}
 use Rattle.pulldown.specs.Codes.{seen_code, seen_by}
 
 -- ---- demand 3
@@ -18,7 +15,7 @@ use Rattle.pulldown.specs.Codes.{seen_code, seen_by}
 -- what the demand says of frame n, the newest of a run, and the cadence that it gets
 pub record Third (n : ℕ) (run : List Frame) (cadence : Cadence) : Type 0 where
   -- it is other than None exactly when some phase meets the four tests,
-  pub exactly : (cadence ≡ None → ⊥) ↔ ((p : ℕ) × (p < 5) × Meets p run)
+  pub exactly : (cadence ≡ cadence.None → ⊥) ↔ ((p : ℕ) × (p < 5) × Meets p run)
   -- and then it is the table entry of that phase's step; only one phase can meet them (`OnePhase`)
   pub entry : (p : ℕ) → p < 5 → Meets p run → cadence ≡ cadence_at (step_of p n)
 
@@ -26,7 +23,7 @@ pub record Third (n : ℕ) (run : List Frame) (cadence : Cadence) : Type 0 where
 -- it gets is what the demand says.
 abbrev pub ThirdDemand : Type 0
 ThirdDemand =
-    (s : Seen) (earlier : List Seen) → length earlier < 4000000000
+    (s : Option Symbol) (earlier : List (Option Symbol)) → length earlier < 4000000000
     → (push_no (lock_of earlier) ≡ 0) × Third (length earlier) (run_of (s ∷ earlier)) (push_cadence (lock_of earlier) s)
 
 -- Only one phase can meet the four tests, whatever the frames.
@@ -41,7 +38,7 @@ MeetsDecided = (p : ℕ) (run : List Frame) → (meets p run ≡ true) ↔ Meets
 
 -- A frame contradicts when it can be compared, its predecessor, with no reset between, met demand 3 with phase p, and it is neither
 -- still nor expected by p.
-pub record Contradicts (s : Symbol) (earlier : List Seen) : Type 0 where
+pub record Contradicts (s : Symbol) (earlier : List (Option Symbol)) : Type 0 where
   pub p : ℕ
   pub below : p < 5
   pub met : Meets p (run_of earlier)
@@ -49,19 +46,19 @@ pub record Contradicts (s : Symbol) (earlier : List Seen) : Type 0 where
 
 -- A run starts fresh, after a frame that cannot be compared, or after a contradicting one; these two kinds belong to no run. Any other
 -- frame makes the run of its predecessor longer.
-pub record RunGrows (s : Symbol) (earlier : List Seen) : Type 0 where
+pub record RunGrows (s : Symbol) (earlier : List (Option Symbol)) : Type 0 where
   pub fresh : run_of [] ≡ []
-  pub not_comparable : run_of (seen.NotComparable ∷ earlier) ≡ []
-  pub contradicting : Contradicts s earlier → run_of (seen.Symbol s ∷ earlier) ≡ []
-  pub longer : (Contradicts s earlier → ⊥) → run_of (seen.Symbol s ∷ earlier) ≡ frame_of (length earlier) s ∷ run_of earlier
+  pub not_comparable : run_of (None ∷ earlier) ≡ []
+  pub contradicting : Contradicts s earlier → run_of (Some s ∷ earlier) ≡ []
+  pub longer : (Contradicts s earlier → ⊥) → run_of (Some s ∷ earlier) ≡ frame_of (length earlier) s ∷ run_of earlier
 
 abbrev pub Runs : Type 0
-Runs = (s : Symbol) (earlier : List Seen) → RunGrows s earlier
+Runs = (s : Symbol) (earlier : List (Option Symbol)) → RunGrows s earlier
 
 -- The frames of a run have consecutive numbers: one that k frames of the run came after has the newest frame's number less k.
 abbrev pub RunConsecutive : Type 0
 RunConsecutive =
-    (seens : List Seen) (f : Frame) (earlier later : List Frame) → run_of seens ≡ later ++ (f ∷ earlier) → f.number + length later + 1 ≡ length seens
+    (seens : List (Option Symbol)) (f : Frame) (earlier later : List Frame) → run_of seens ≡ later ++ (f ∷ earlier) → f.number + length later + 1 ≡ length seens
 
 -- The phase of a run is the one that its newest frame meets, and 5 where it meets none.
 abbrev pub PhaseSays : Type 0
@@ -87,33 +84,29 @@ LockFrameSays = (p : ℕ) (run : List Frame) → p < 5 → Meets p run → Locke
 -- `locked` says whether the newest frame met demand 3 with some phase.
 abbrev pub LockedSays : Type 0
 LockedSays =
-    (seens : List Seen) → length seens ≤ 4000000000
+    (seens : List (Option Symbol)) → length seens ≤ 4000000000
     → (locked_of (lock_of seens) ≡ true) ↔ ((p : ℕ) × (p < 5) × Meets p (run_of seens))
 
 -- `predict` speaks of the phase and the lock frame of the run.
 abbrev pub PredictSays : Type 0
 PredictSays =
-    (seens : List Seen) (ahead : ℕ) → length seens ≤ 4000000000
+    (seens : List (Option Symbol)) (ahead : ℕ) → length seens ≤ 4000000000
     → predict_cadence (lock_of seens) ahead ≡ foretold (phase_of (run_of seens)) (lock_frame (run_of seens)) (length seens + ahead)
 
 -- A push gives 9 exactly when 4,000,000,000 frames were taken since fresh or reset, and else 0. With 9 it hands back the old lock.
-pub record PushNumbers (earlier : List Seen) (s : Seen) : Type 0 where
+pub record PushNumbers (earlier : List (Option Symbol)) (s : Option Symbol) : Type 0 where
   pub refused : (push_no (lock_of earlier) ≡ 9) ↔ ((lock_of earlier).course.taken ≡ 4000000000)
   pub done : (push_no (lock_of earlier) ≡ 0) ↔ ((lock_of earlier).course.taken < 4000000000)
   pub taken : (lock_of earlier).course.taken ≡ min (length earlier) 4000000000
   pub unchanged : push_no (lock_of earlier) ≡ 9 → push_lock (lock_of earlier) s ≡ lock_of earlier
 
 abbrev pub PushSays : Type 0
-PushSays = (earlier : List Seen) (s : Seen) → PushNumbers earlier s
+PushSays = (earlier : List (Option Symbol)) (s : Option Symbol) → PushNumbers earlier s
 
 -- `predict` gives 10 exactly when it is asked more than 1,000,000 ahead, and else 0.
 abbrev pub PredictNo : Type 0
 PredictNo = (ahead : ℕ) → ((predict_no ahead ≡ 10) ↔ (1000000 < ahead)) × ((predict_no ahead ≡ 0) ↔ (ahead ≤ 1000000))
 
--- The number and the values of an answer leave no other answer.
-abbrev pub AnswerSettled : Type 0
-AnswerSettled = (a b : Answer) → answer_no a ≡ answer_no b → answer_values a ≡ answer_values b → a ≡ b
-
 -- The code of what was seen of a frame stands for just that.
 abbrev pub CodeSeen : Type 0
-CodeSeen = (s : Seen) → seen_by (seen_code s) ≡ s
+CodeSeen = (s : Option Symbol) → seen_by (seen_code s) ≡ s

@@ -1,30 +1,15 @@
 -- What the functions of `Lock` give, on every value that the struct can hold (docs/RULES.md, "Runs, phases, cadence", "What the desk gets
 -- back", 9 and 10, and "Forms that must change": the ring). Numbers that no history reaches are brought into range here as in the code:
 -- places are taken modulo 15, numbers in the ring stop at 3, a phase from 5 on is none. Claims has what comes of it after a history.
-use Rattle.std.specs.Prelude.{ℕ, zero, suc, ◌+◌, ◌-◌, ◌%◌, min, Bool, cond, ◌&&◌, List, [], ◌∷◌, get_or, set, replicate, leb, ltb}
+use Rattle.std.specs.Prelude.{ℕ, zero, suc, ◌+◌, ◌-◌, ◌%◌, min, Bool, cond, ◌&&◌, List, [], ◌∷◌, get_or, set, replicate, leb, ltb, Option, Some, None}
 use Rattle.laws.specs.Refusal.{lowest, written}
 use Rattle.field.specs.declared.Cadence.{Cadence}
 use Rattle.pulldown.specs.declared.Symbol.{Symbol}
 use Rattle.pulldown.specs.declared.Symbol.TheVariants.{Still, Moved, RepeatFirst, RepeatSecond}
-use Rattle.pulldown.specs.declared.Seen.{Seen}
-use Rattle.pulldown.specs.declared.Seen.TheVariants as seen
 use Rattle.pulldown.specs.declared.Lock.{Lock}
 use Rattle.pulldown.specs.declared.Course.{Course}
-use Rattle.pulldown.specs.declared.Answer.{Answer}
-use Rattle.pulldown.specs.declared.Answer.TheVariants as answer
 use Rattle.pulldown.specs.Symbols.{symbol_number, same_symbol}
 use Rattle.pulldown.specs.Runs.{Frame, frame_of, step_of, agrees, first_phase, contradicts, cadence_by, foretold}
-
--- ---- answers
-
--- An answer by its cases: a cadence is number 0 and that cadence, a refusal its number and no cadence.
-abbrev pub answer_no : Answer → ℕ
-answer_no (answer.Gave c) = 0
-answer_no (answer.Refused n) = n
-
-abbrev pub answer_values : Answer → List Cadence
-answer_values (answer.Gave c) = c ∷ []
-answer_values (answer.Refused n) = []
 
 -- ---- the ring
 
@@ -93,9 +78,9 @@ without_symbol l = record {
   course = record { next = l.course.next; held = 0; taken = l.course.taken + 1; phase = 5; since = l.course.since; stills = 0 };
 }
 
-unfoldable pub advance_of : Lock → Seen → Lock
-advance_of l seen.NotComparable = without_symbol l
-advance_of l (seen.Symbol s) = with_symbol l s
+unfoldable pub advance_of : Lock → Option Symbol → Lock
+advance_of l None = without_symbol l
+advance_of l (Some s) = with_symbol l s
 
 -- ---- the calls
 
@@ -114,11 +99,11 @@ abbrev pub push_no : Lock → ℕ
 push_no l = lowest ((9, ltb l.course.taken 4000000000) ∷ [])
 
 -- the cadence that a push gives
-abbrev pub push_cadence : Lock → Seen → Cadence
+abbrev pub push_cadence : Lock → Option Symbol → Cadence
 push_cadence l s = cadence_by (advance_of l s).course.phase l.course.taken
 
 -- the lock that a push hands back
-abbrev pub push_lock : Lock → Seen → Lock
+abbrev pub push_lock : Lock → Option Symbol → Lock
 push_lock l s = written (push_no l) (advance_of l s) l
 
 -- 10: `predict` is asked more than 1,000,000 ahead
@@ -132,6 +117,6 @@ predict_cadence l ahead = foretold l.course.phase l.course.since (min l.course.t
 -- ---- histories
 
 -- the lock after pushes to a fresh one, of which these were seen
-abbrev pub lock_of : List Seen → Lock
+abbrev pub lock_of : List (Option Symbol) → Lock
 lock_of [] = fresh_lock
 lock_of (s ∷ earlier) = push_lock (lock_of earlier) s

@@ -1,12 +1,10 @@
 -- Runs, phases, lock frames and cadences (docs/RULES.md, "Runs, phases, cadence", and demand 3), from the frames alone. Lists of frames,
 -- and of what was seen of frames, are newest first. Phases are 0 to 4; 5 stands for none.
-use Rattle.std.specs.Prelude.{ℕ, suc, ◌+◌, ◌-◌, ◌%◌, ◌<◌, ◌≤◌, ◌≡◌, Bool, true, false, cond, not, ◌&&◌, ◌||◌, List, [], ◌∷◌, ◌++◌, length, take, drop, leb, ltb}
+use Rattle.std.specs.Prelude.{ℕ, suc, ◌+◌, ◌-◌, ◌%◌, ◌<◌, ◌≤◌, ◌≡◌, Bool, true, false, cond, not, ◌&&◌, ◌||◌, List, [], ◌∷◌, ◌++◌, length, take, drop, leb, ltb, Option, Some, None}
 use Rattle.field.specs.declared.Cadence.{Cadence}
-use Rattle.field.specs.declared.Cadence.TheVariants.{None}
+use Rattle.field.specs.declared.Cadence.TheVariants as cadence
 use Rattle.pulldown.specs.declared.Symbol.{Symbol}
 use Rattle.pulldown.specs.declared.Symbol.TheVariants.{Still, Moved, RepeatFirst, RepeatSecond}
-use Rattle.pulldown.specs.declared.Seen.{Seen}
-use Rattle.pulldown.specs.declared.Seen.TheVariants as seen
 use Rattle.pulldown.specs.Symbols.{same_symbol, one_if}
 use Rattle.pulldown.specs.Table.{expected_at, cadence_at}
 
@@ -107,18 +105,18 @@ go_on f run = cond (contradicts (phase_of run) f) [] (f ∷ run)
 
 -- The run that the newest frame belongs to, of what was seen of each frame since fresh or reset. It is empty for the two kinds
 -- that belong to none: a frame that cannot be compared, and one that contradicts. A run starts after these, and fresh.
-abbrev pub run_of : List Seen → List Frame
+abbrev pub run_of : List (Option Symbol) → List Frame
 run_of [] = []
-run_of (seen.NotComparable ∷ earlier) = []
-run_of (seen.Symbol s ∷ earlier) = go_on (frame_of (length earlier) s) (run_of earlier)
+run_of (None ∷ earlier) = []
+run_of (Some s ∷ earlier) = go_on (frame_of (length earlier) s) (run_of earlier)
 
 -- ---- cadences
 
 -- frame n's entry in the table; None for no phase
 abbrev pub cadence_by : ℕ → ℕ → Cadence
-cadence_by p n = cond (ltb p 5) (cadence_at (step_of p n)) None
+cadence_by p n = cond (ltb p 5) (cadence_at (step_of p n)) cadence.None
 
 -- What is foretold of frame `at` by a phase and its lock frame: None if `at` minus its step is no later than the lock frame, else the
 -- step's cadence. No lock: None.
 unfoldable pub foretold : ℕ → ℕ → ℕ → Cadence
-foretold p lock at = cond (ltb p 5) (cond (leb (at - step_of p at) lock) None (cadence_at (step_of p at))) None
+foretold p lock at = cond (ltb p 5) (cond (leb (at - step_of p at) lock) cadence.None (cadence_at (step_of p at))) cadence.None

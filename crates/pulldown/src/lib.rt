@@ -2,19 +2,24 @@
 // SPDX-License-Identifier: Apache-2.0
 // Carried over from core/src/output/video/telecine.rs, and changed: `advance` is `Lock::push`, by value,
 // and `push_apart`, on what was seen of a frame; the window is a ring of 15 numbers; no phase is phase 5;
-// `classify_counts` takes the three counts that it reads; frames and looks ahead are bounded.
+// `classify_counts` takes the three counts that it reads; frames and looks ahead are bounded, and more are
+// refused.
 //
 // The 2:3 pulldown in a sequence of frames, by what was seen of each: the symbol that block counts give,
 // and the lock on the pattern of five frames. Of pictures, stores and parities nothing is known here.
 #![tactic(auto)]
 
-ghost use Rattle.std.specs.Prelude.{◌≡◌, cond, ℕ, ◌+◌, ◌-◌, ◌%◌, ◌<◌, ◌≤◌, min, max, List, ltb, length};
+ghost use Rattle.std.specs.Prelude.{◌≡◌, cond, ℕ, ◌+◌, ◌%◌, ◌<◌, ◌≤◌, min, List, ltb, length};
 ghost use Rattle.laws.specs.Refusal.{when_done, written};
-ghost use Rattle.pulldown.specs.Symbols.{symbol_of, symbol_number, same_symbol, one_if};
+ghost use Rattle.refusal.specs.Refusal.{no_of, values_of};
+ghost use Rattle.pulldown.specs.Symbols.{symbol_of};
 ghost use Rattle.pulldown.specs.Runs.{frame_of, step_of, still_or_expected, agrees, contradicts, cadence_by, foretold};
-ghost use Rattle.pulldown.specs.Lock.{answer_no, answer_values, symbol_at, window, candidate_of, locked_by, stills_after, with_symbol, without_symbol, advance_of, fresh_lock, locked_of, lock_with, push_no, push_cadence, push_lock, predict_no, predict_cadence};
+ghost use Rattle.pulldown.specs.Lock.{symbol_at, window, candidate_of, locked_by, stills_after, with_symbol, without_symbol, advance_of, fresh_lock, locked_of, lock_with, push_no, push_cadence, push_lock, predict_no, predict_cadence};
 ghost use Rattle.pulldown.specs.Codes.{seen_code, seen_by, cadences_of, codes_no};
 ghost use Rattle.pulldown.specs.Inner.{with_phase, phase_in};
+
+use field::Cadence;
+use refusal::Refusal;
 
 // A field moved where this part of its blocks is busy, or more, and at least `MOVING_LEAST` are.
 const MOVING_PART: u64 = 128;
@@ -44,21 +49,15 @@ pub const MOST_FRAMES: u64 = 4000000000;
 
 const MOST_AHEAD: u64 = 1000000;
 
-// What is seen of a frame, each of its fields held against the same field of the frame before.
-#[derive(Clone, Copy)]
+// What is seen of a frame, each of its fields held against the same field of the frame before. A frame that
+// cannot be compared with one before it has no symbol. The number is the one that stands in the ring.
+#[derive(Clone, Copy, Debug, PartialEq, Eq)]
 pub enum Symbol {
-    Still,
-    Moved,
+    Still = 0,
+    Moved = 1,
     // The field that is shown first repeats.
-    RepeatFirst,
-    RepeatSecond,
-}
-
-// A frame that cannot be compared with one before it has no symbol.
-#[derive(Clone, Copy)]
-pub enum Seen {
-    NotComparable,
-    Symbol(Symbol),
+    RepeatFirst = 2,
+    RepeatSecond = 3,
 }
 
 // What is expected of a frame, by its step. Which field repeats tells the third frame from the fifth,
@@ -71,16 +70,16 @@ const PATTERN: [Symbol; 5] = [
     Symbol::RepeatSecond,
 ];
 
-const BECOMES: [field::Cadence; 5] = [
-    field::Cadence::Whole,
-    field::Cadence::Whole,
-    field::Cadence::Drop,
-    field::Cadence::Spanning,
-    field::Cadence::Spanning,
+const BECOMES: [Cadence; 5] = [
+    Cadence::Whole,
+    Cadence::Whole,
+    Cadence::Drop,
+    Cadence::Spanning,
+    Cadence::Spanning,
 ];
 
 // A lock without its ring.
-#[derive(Clone, Copy)]
+#[derive(Clone, Copy, Debug, PartialEq, Eq)]
 pub struct Course {
     // The place in the ring that the next symbol takes.
     pub next: usize,
@@ -88,7 +87,8 @@ pub struct Course {
     pub held: usize,
     // How many frames were taken since fresh or reset, which is the next frame's number.
     pub taken: u64,
-    // 0 to 4, or 5 for none.
+    // 0 to 4, or 5 for none; no Option, since a host's state holds any byte here, and the exports' clauses
+    // speak of every one.
     pub phase: u8,
     // The frame at which the phase was locked. Without a phase it says nothing.
     pub since: u64,
@@ -96,54 +96,23 @@ pub struct Course {
     pub stills: usize,
 }
 
-#[derive(Clone, Copy)]
+#[derive(Clone, Copy, Debug, PartialEq, Eq)]
 pub struct Lock {
     // The last symbols as numbers.
     pub ring: [u8; 15],
     pub course: Course,
 }
 
-#[derive(Clone, Copy)]
-pub enum Answer {
-    Gave(field::Cadence),
-    Refused(u8),
-}
-
-#[derive(Clone, Copy)]
+#[derive(Clone, Copy, Debug, PartialEq, Eq)]
 pub struct Pushed {
     pub lock: Lock,
-    pub answer: Answer,
+    pub answer: Result<Cadence, Refusal>,
 }
 
-#[derive(Clone, Copy)]
+#[derive(Clone, Copy, Debug, PartialEq, Eq)]
 pub struct Stepped {
     pub course: Course,
-    pub answer: Answer,
-}
-
-fn larger(a: u64, b: u64) -> u64
-    ensures { result ≡ max a b }
-{
-    if a < b { b } else { a }
-}
-
-fn smaller(a: u64, b: u64) -> u64
-    ensures { result ≡ min a b }
-{
-    if a < b { a } else { b }
-}
-
-fn less(a: u64, b: u64) -> u64
-    ensures { result ≡ a - b }
-{
-    if a < b { 0 } else { a - b }
-}
-
-// One more than n, and never more than `most`.
-fn one_more(n: usize, most: usize) -> usize
-    ensures { result ≡ min most (n + 1) }
-{
-    if n < most { n + 1 } else { most }
+    pub answer: Result<Cadence, Refusal>,
 }
 
 // The symbol of a frame by its busy blocks: those of the leading field, that field's total, and those of
@@ -152,8 +121,8 @@ fn one_more(n: usize, most: usize) -> usize
 pub fn classify_counts(first: u64, blocks: u64, second: u64) -> Symbol
     ensures { result ≡ symbol_of first blocks second }
 {
-    let moving = larger(blocks / MOVING_PART, MOVING_LEAST);
-    let quiet = larger(blocks / QUIET_PART, QUIET_MOST);
+    let moving = (blocks / MOVING_PART).max(MOVING_LEAST);
+    let quiet = (blocks / QUIET_PART).max(QUIET_MOST);
     if (first <= quiet) & (moving <= second) {
         return Symbol::RepeatFirst;
     }
@@ -166,43 +135,16 @@ pub fn classify_counts(first: u64, blocks: u64, second: u64) -> Symbol
     Symbol::Moved
 }
 
-fn number_of(symbol: Symbol) -> u8
-    ensures { result ≡ symbol_number symbol }
-{
-    match symbol {
-        Symbol::Still => 0,
-        Symbol::Moved => 1,
-        Symbol::RepeatFirst => 2,
-        Symbol::RepeatSecond => 3,
-    }
-}
-
+// The symbol that a number of the ring stands for: every number above 2 is the last symbol's.
 fn symbol_of(number: u8) -> Symbol
     ensures { result ≡ symbol_at number }
 {
-    if number == 0 {
-        return Symbol::Still;
+    match number {
+        0 => Symbol::Still,
+        1 => Symbol::Moved,
+        2 => Symbol::RepeatFirst,
+        _ => Symbol::RepeatSecond,
     }
-    if number == 1 {
-        return Symbol::Moved;
-    }
-    if number == 2 {
-        Symbol::RepeatFirst
-    } else {
-        Symbol::RepeatSecond
-    }
-}
-
-fn same(a: Symbol, b: Symbol) -> bool
-    ensures { result ≡ same_symbol a b }
-{
-    number_of(a) == number_of(b)
-}
-
-fn one_if(a: Symbol, b: Symbol) -> usize
-    ensures { (result ≡ one_if a b) × (result ≤ 1) }
-{
-    if same(a, b) { 1 } else { 0 }
 }
 
 // The step of frame n: its place in both tables.
@@ -210,16 +152,14 @@ fn step_of(phase: u8, n: u64) -> usize
     requires { phase < 5 }
     ensures { (result ≡ step_of phase n) × (result < 5) }
 {
-    ((n % 5 + 5 - phase as u64) % 5) as usize
+    ((n % 5 + 5 - u64::from(phase)) % 5) as usize
 }
 
 fn still_or_expected(phase: u8, n: u64, symbol: Symbol) -> bool
     requires { phase < 5 }
     ensures { result ≡ still_or_expected phase (frame_of n symbol) }
 {
-    let step = step_of(phase, n);
-    let expected = PATTERN[step];
-    same(symbol, Symbol::Still) | same(symbol, expected)
+    (symbol == Symbol::Still) | (symbol == PATTERN[step_of(phase, n)])
 }
 
 // Whether the window agrees with a phase: the newest `held` frames of the ring, the newest of which has
@@ -230,22 +170,19 @@ fn agrees(ring: &[u8; 15], place: usize, n: u64, held: usize, phase: u8) -> bool
 {
     let mut at = place;
     let mut number = n;
-    let mut left = held;
     let mut firsts: usize = 0;
     let mut seconds: usize = 0;
     let mut moved: usize = 0;
-    while 0 < left {
+    for _back in 0..held {
         let symbol = symbol_of(ring[at]);
-        if still_or_expected(phase, number, symbol) {
-            firsts = firsts + one_if(symbol, Symbol::RepeatFirst);
-            seconds = seconds + one_if(symbol, Symbol::RepeatSecond);
-            moved = moved + one_if(symbol, Symbol::Moved);
-            at = (at + (WINDOW - 1)) % WINDOW;
-            number = less(number, 1);
-            left = left - 1;
-        } else {
+        if !still_or_expected(phase, number, symbol) {
             return false;
         }
+        firsts += usize::from(symbol == Symbol::RepeatFirst);
+        seconds += usize::from(symbol == Symbol::RepeatSecond);
+        moved += usize::from(symbol == Symbol::Moved);
+        at = (at + (WINDOW - 1)) % WINDOW;
+        number = number.saturating_sub(1);
     }
     (2 <= firsts) & (2 <= seconds) & (4 <= moved)
 }
@@ -255,12 +192,10 @@ fn candidate(ring: &[u8; 15], place: usize, n: u64, held: usize) -> u8
     requires { (place < 15) × (held ≤ 15) }
     ensures { result ≡ candidate_of (window ring.now place n held) }
 {
-    let mut phase: u8 = 0;
-    while phase < NO_PHASE {
+    for phase in 0..NO_PHASE {
         if agrees(ring, place, n, held, phase) {
             return phase;
         }
-        phase = phase + 1;
     }
     NO_PHASE
 }
@@ -304,37 +239,36 @@ fn contradicts(phase: u8, n: u64, symbol: Symbol) -> bool
     }
 }
 
-fn cadence_by(phase: u8, n: u64) -> field::Cadence
+fn cadence_by(phase: u8, n: u64) -> Cadence
     ensures { result ≡ cadence_by phase n }
 {
     if phase < NO_PHASE {
-        let step = step_of(phase, n);
-        BECOMES[step]
+        BECOMES[step_of(phase, n)]
     } else {
-        field::Cadence::None
+        Cadence::None
     }
 }
 
 // What is left of the cycle in which the phase was locked is not foretold: it would lean on a field of
 // the frame before.
-fn foretell(phase: u8, since: u64, at: u64) -> field::Cadence
+fn foretell(phase: u8, since: u64, at: u64) -> Cadence
     ensures { result ≡ foretold phase since at }
 {
     if phase < NO_PHASE {
         let step = step_of(phase, at);
-        if less(at, step as u64) <= since {
-            return field::Cadence::None;
+        if at.saturating_sub(step as u64) <= since {
+            return Cadence::None;
         }
         return BECOMES[step];
     }
-    field::Cadence::None
+    Cadence::None
 }
 
 fn stills_after(stills: usize, symbol: Symbol) -> usize
     ensures { result ≡ stills_after stills symbol }
 {
-    if same(symbol, Symbol::Still) {
-        one_more(stills, MOST_STILL)
+    if symbol == Symbol::Still {
+        stills.saturating_add(1).min(MOST_STILL)
     } else {
         0
     }
@@ -382,33 +316,18 @@ fn enter(ring: &mut [u8; 15], course: Course, symbol: Symbol) -> Course
 {
     let n = course.taken;
     let place = course.next;
-    ring[place] = number_of(symbol);
-    let next = place_after(place);
-    let held = one_more(course.held, WINDOW);
+    ring[place] = symbol as u8;
+    let held = course.held.saturating_add(1).min(WINDOW);
     let stills = stills_after(course.stills, symbol);
     let left = phase_left(stills, course.phase);
     let broken = contradicts(left, n, symbol);
-    let kept = held_after(broken, held);
     Course {
-        next: next,
-        held: kept,
+        next: place_after(place),
+        held: held_after(broken, held),
         taken: n + 1,
         phase: phase_unless(broken, left),
         since: since_after(left < NO_PHASE, course.since, n),
-        stills: stills,
-    }
-}
-
-fn with_phase(course: Course, phase: u8) -> Course
-    ensures { result ≡ with_phase course phase }
-{
-    Course {
-        next: course.next,
-        held: course.held,
-        taken: course.taken,
-        phase: phase,
-        since: course.since,
-        stills: course.stills,
+        stills,
     }
 }
 
@@ -418,12 +337,11 @@ fn end_run(course: Course) -> Course
     ensures { (ring : List ℕ) → lock_with ring result ≡ without_symbol (lock_with ring course) }
 {
     Course {
-        next: course.next,
         held: 0,
         taken: course.taken + 1,
         phase: NO_PHASE,
-        since: course.since,
         stills: 0,
+        ..course
     }
 }
 
@@ -433,56 +351,55 @@ fn in_ring(course: Course) -> Course
 {
     Course {
         next: course.next % WINDOW,
-        held: course.held,
-        taken: course.taken,
-        phase: course.phase,
-        since: course.since,
-        stills: course.stills,
+        ..course
     }
 }
 
-// Takes a frame that can be compared.
+// Takes a frame that can be compared. Compiled into both of its callers: the loop of `cadences_of` is one.
+#[inline(always)]
 fn take_symbol(ring: &mut [u8; 15], course: Course, symbol: Symbol) -> Course
     requires { (course.next < 15) × (course.taken < 4000000000) }
-    ensures { lock_with ring.new result ≡ with_symbol (lock_with ring.old course) symbol }
+    ensures { (lock_with ring.new result ≡ with_symbol (lock_with ring.old course) symbol) × (result.next < 15) }
 {
     let after = enter(ring, course, symbol);
     if after.phase < NO_PHASE {
         return after;
     }
     let phase = locked_among(ring, course.next, course.taken, after.held);
-    with_phase(after, phase)
+    Course {
+        phase: phase,
+        ..after
+    }
 }
 
-fn take_seen(ring: &mut [u8; 15], course: Course, seen: Seen) -> Course
+fn take_seen(ring: &mut [u8; 15], course: Course, seen: Option<Symbol>) -> Course
     requires { course.taken < 4000000000 }
     ensures { lock_with ring.new result ≡ advance_of (lock_with ring.old course) seen }
 {
     match seen {
-        Seen::NotComparable => end_run(course),
-        Seen::Symbol(symbol) => take_symbol(ring, in_ring(course), symbol),
+        None => end_run(course),
+        Some(symbol) => take_symbol(ring, in_ring(course), symbol),
     }
 }
 
 // Takes a frame, the ring in place: every push of a lock is this step. A refusal changes nothing. The
 // cadence is that of the phase which the frame leaves.
 #[tactic(auto, unfolding(laws::specs::Refusal::lowest))]
-pub fn push_apart(ring: &mut [u8; 15], course: Course, seen: Seen) -> Stepped
+pub fn push_apart(ring: &mut [u8; 15], course: Course, seen: Option<Symbol>) -> Stepped
     ensures course_after { lock_with ring.new result.course ≡ push_lock (lock_with ring.old course) seen }
-    ensures answer_value { answer_no result.answer ≡ push_no (lock_with ring.old course) }
-    ensures answer_value_2 { answer_values result.answer ≡ when_done (push_no (lock_with ring.old course)) (push_cadence (lock_with ring.old course) seen) }
+    ensures answer_value { no_of result.answer ≡ push_no (lock_with ring.old course) }
+    ensures answer_value_2 { values_of result.answer ≡ when_done (push_no (lock_with ring.old course)) (push_cadence (lock_with ring.old course) seen) }
 {
     if MOST_FRAMES <= course.taken {
         return Stepped {
-            course: course,
-            answer: Answer::Refused(refusal::TOO_MANY_FRAMES),
+            course,
+            answer: Err(Refusal::TooManyFrames),
         };
     }
     let after = take_seen(ring, course, seen);
-    let cadence = cadence_by(after.phase, course.taken);
     Stepped {
         course: after,
-        answer: Answer::Gave(cadence),
+        answer: Ok(cadence_by(after.phase, course.taken)),
     }
 }
 
@@ -512,57 +429,47 @@ impl Lock {
     pub fn locked(self) -> bool
         ensures { result ≡ locked_of self }
     {
-        let course = self.course;
-        course.phase < NO_PHASE
+        self.course.phase < NO_PHASE
     }
 
-    pub fn push(self, seen: Seen) -> Pushed
-        ensures { (result.lock ≡ push_lock self seen) × (answer_no result.answer ≡ push_no self) × (answer_values result.answer ≡ when_done (push_no self) (push_cadence self seen)) }
+    pub fn push(self, seen: Option<Symbol>) -> Pushed
+        ensures { (result.lock ≡ push_lock self seen) × (no_of result.answer ≡ push_no self) × (values_of result.answer ≡ when_done (push_no self) (push_cadence self seen)) }
     {
         let mut ring = self.ring;
-        let course = self.course;
-        let stepped = push_apart(&mut ring, course, seen);
-        let after = stepped.course;
-        let answer = stepped.answer;
-        let lock = Lock {
-            ring: ring,
-            course: after,
-        };
+        let stepped = push_apart(&mut ring, self.course, seen);
         Pushed {
-            lock: lock,
-            answer: answer,
+            lock: Lock {
+                ring,
+                course: stepped.course,
+            },
+            answer: stepped.answer,
         }
     }
 
     // The cadence of the frame that comes after `ahead` others, as far as the lock tells it.
     #[tactic(auto, unfolding(laws::specs::Refusal::lowest))]
-    pub fn predict(self, ahead: u64) -> Answer
-        ensures { (answer_no result ≡ predict_no ahead) × (answer_values result ≡ when_done (predict_no ahead) (predict_cadence self ahead)) }
+    pub fn predict(self, ahead: u64) -> Result<Cadence, Refusal>
+        ensures { (no_of result ≡ predict_no ahead) × (values_of result ≡ when_done (predict_no ahead) (predict_cadence self ahead)) }
     {
-        if MOST_AHEAD < ahead {
-            return Answer::Refused(refusal::TOO_FAR_AHEAD);
-        }
-        let course = self.course;
-        let at = smaller(course.taken, MOST_FRAMES) + ahead;
-        Answer::Gave(foretell(course.phase, course.since, at))
+        Refusal::TooFarAhead.unless(ahead <= MOST_AHEAD)?;
+        let at = self.course.taken.min(MOST_FRAMES) + ahead;
+        Ok(foretell(self.course.phase, self.course.since, at))
     }
 }
 
 // ---- frames by their codes
 
 // The number of a frame's symbol, and 4 for a frame that cannot be compared.
-pub fn seen_code(seen: Seen) -> u8
+pub fn seen_code(seen: Option<Symbol>) -> u8
     ensures { result ≡ seen_code seen }
 {
     match seen {
-        Seen::NotComparable => 4,
-        Seen::Symbol(symbol) => number_of(symbol),
+        None => 4,
+        Some(symbol) => symbol as u8,
     }
 }
 
-// The step of `push_apart`, of a code and without its tests. It does what `take_symbol` does and does not
-// call it, since a function with a second caller would not be compiled into the loop of `cadences_of`.
-#[tactic(auto, using(crate::proofs::Step::ended), unfolding(crate::specs::Lock::advance_of))]
+// The step of `push_apart`, of a code and without its tests.
 fn take_code(ring: &mut [u8; 15], course: Course, code: u8) -> Course
     requires { (course.next < 15) × (course.taken < 4000000000) }
     ensures { (lock_with ring.new result ≡ advance_of (lock_with ring.old course) (seen_by code)) × (result.next < 15) }
@@ -570,33 +477,25 @@ fn take_code(ring: &mut [u8; 15], course: Course, code: u8) -> Course
     if 3 < code {
         return end_run(course);
     }
-    let after = enter(ring, course, symbol_of(code));
-    if after.phase < NO_PHASE {
-        return after;
-    }
-    let phase = locked_among(ring, course.next, course.taken, after.held);
-    with_phase(after, phase)
+    take_symbol(ring, course, symbol_of(code))
 }
 
 // Frames by what was seen of each, as a code: 0 to 3 for a symbol, any other for a frame that cannot be
 // compared. Each code gives place to its frame's cadence, from a fresh lock: 0 None, 1 Whole, 2 Drop,
 // 3 Spanning. Number 9.
-pub fn cadences_of(codes: &mut [u8]) -> u8
-    ensures value { result ≡ codes_no (length codes.old) }
-    ensures codes_after { codes.new ≡ written result (cadences_of codes.old) codes.old }
+#[tactic(auto, unfolding(laws::specs::Refusal::lowest))]
+pub fn cadences_of(codes: &mut [u8]) -> Result<(), Refusal>
+    ensures value { no_of result ≡ codes_no (length codes.old) }
+    ensures codes_after { codes.new ≡ written (no_of result) (cadences_of codes.old) codes.old }
 {
-    if 4000000000 < codes.len() {
-        return refusal::TOO_MANY_FRAMES;
-    }
+    Refusal::TooManyFrames.unless(codes.len() <= 4000000000)?;
     let lock = Lock::new();
     let mut ring = lock.ring;
     let mut course = lock.course;
-    let mut k = 0;
-    while k < codes.len() {
-        let after = take_code(&mut ring, course, codes[k]);
-        codes[k] = cadence_by(after.phase, course.taken).number();
+    for code in codes.iter_mut() {
+        let after = take_code(&mut ring, course, *code);
+        *code = cadence_by(after.phase, course.taken).number();
         course = after;
-        k += 1;
     }
-    0
+    Ok(())
 }

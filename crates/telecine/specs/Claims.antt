@@ -2,16 +2,15 @@
 -- are", and demand 3). proofs/Claims.antt proves each claim under its name in small letters. No claim supposes anything of a history: calls
 -- that are refused may stand anywhere, and `taken` leaves them out. Lists of calls are newest first. Of the answers themselves, and of 10,
 -- crate `pulldown` has the claims.
-use Rattle.std.specs.Prelude.{ℕ, ◌+◌, ◌<◌, ◌≡◌, ◌↔◌, true, List, [], ◌∷◌, ◌++◌, length}
+use Rattle.std.specs.Prelude.{ℕ, ◌+◌, ◌<◌, ◌≡◌, ◌↔◌, true, List, [], ◌∷◌, ◌++◌, length, Some, None}
 use Rattle.laws.specs.Refusal.{Says}
-use Rattle.field.specs.declared.Chosen.TheVariants as chosen
+use Rattle.refusal.specs.Refusal.{no_of, values_of}
 use Rattle.field.specs.declared.Parity.{Parity}
 use Rattle.plane.specs.declared.Shape.{Shape}
 use Rattle.plane.specs.Plane.{code_of}
 use Rattle.pulldown.specs.declared.Symbol.{Symbol}
-use Rattle.pulldown.specs.declared.Seen.TheVariants as seen
 use Rattle.pulldown.specs.Runs.{Frame, frame_of, Meets, phase_of, lock_frame, foretold}
-use Rattle.pulldown.specs.Lock.{answer_no, answer_values, locked_of, predict_cadence}
+use Rattle.pulldown.specs.Lock.{locked_of, predict_cadence}
 use Rattle.pulldown.specs.Claims.{Third}
 use Rattle.pulldown.specs.Claims as lock
 use Rattle.telecine.specs.declared.Detector.{Detector}
@@ -35,7 +34,7 @@ ThirdDemand =
 -- nor expected by p.
 pub record Contradicts (u : Push) (earlier : List Call) : Type 0 where
   pub symbol : Symbol
-  pub compared : seen_of u earlier ≡ seen.Symbol symbol
+  pub compared : seen_of u earlier ≡ Some symbol
   pub contradicting : lock.Contradicts symbol (seens earlier)
 
 -- A run starts fresh, after reset, after a frame that cannot be compared, or after a contradicting one. These two kinds belong to no run.
@@ -43,10 +42,10 @@ pub record Contradicts (u : Push) (earlier : List Call) : Type 0 where
 pub record RunGrows (u : Push) (earlier : List Call) : Type 0 where
   pub fresh : run_of [] ≡ []
   pub anew : run_of (reset ∷ earlier) ≡ []
-  pub not_comparable : seen_of u earlier ≡ seen.NotComparable → run_of (push u ∷ earlier) ≡ []
+  pub not_comparable : seen_of u earlier ≡ None → run_of (push u ∷ earlier) ≡ []
   pub contradicting : Contradicts u earlier → run_of (push u ∷ earlier) ≡ []
   pub longer :
-      (s : Symbol) → seen_of u earlier ≡ seen.Symbol s → (Contradicts u earlier → ⊥)
+      (s : Symbol) → seen_of u earlier ≡ Some s → (Contradicts u earlier → ⊥)
       → run_of (push u ∷ earlier) ≡ frame_of (frames_of earlier) s ∷ run_of earlier
 
 abbrev pub Runs : Type 0
@@ -119,9 +118,9 @@ ResetForgets =
 
 -- A reset detector that remembers no parity is fresh.
 abbrev pub ResetIsFresh : Type 0
-ResetIsFresh = (d : Detector) → d.last ≡ chosen.Neither → reset_of d ≡ fresh_detector
+ResetIsFresh = (d : Detector) → d.last ≡ None → reset_of d ≡ fresh_detector
 
 -- What a push promises leaves no other result.
 abbrev pub PushedSettled : Type 0
 PushedSettled =
-    (a b : Pushed) → a.detector ≡ b.detector → answer_no a.answer ≡ answer_no b.answer → answer_values a.answer ≡ answer_values b.answer → a ≡ b
+    (a b : Pushed) → a.detector ≡ b.detector → no_of a.answer ≡ no_of b.answer → values_of a.answer ≡ values_of b.answer → a ≡ b

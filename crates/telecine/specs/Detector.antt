@@ -1,21 +1,17 @@
 -- What each call of the detector gives, on every value that its struct can hold (docs/RULES.md, "Blocks and symbols", "What the desk gets
 -- back", 4, 6, 7 and 9, and "Forms that must change": the store). `locked` and `predict` are those of the lock (crate `pulldown`). Claims
 -- has what comes of it over several calls.
-use Rattle.std.specs.Prelude.{ℕ, ◌*◌, Bool, true, false, cond, not, ◌&&◌, List, [], ◌∷◌, leb, ltb, eqb, length}
+use Rattle.std.specs.Prelude.{ℕ, ◌*◌, Bool, true, false, cond, not, ◌&&◌, List, [], ◌∷◌, leb, ltb, eqb, length, Option, Some, None}
 use Rattle.laws.specs.Refusal.{lowest, when_done, written}
 use Rattle.laws.specs.Rows.{over}
 use Rattle.field.specs.declared.Cadence.{Cadence}
 use Rattle.field.specs.declared.Parity.{Parity}
 use Rattle.field.specs.declared.Parity.TheVariants as parity
-use Rattle.field.specs.declared.Chosen.{Chosen}
-use Rattle.field.specs.declared.Chosen.TheVariants as chosen
 use Rattle.field.specs.Field.{first_row_of, other_of}
 use Rattle.plane.specs.declared.Shape.{Shape}
 use Rattle.plane.specs.Plane.{good_shape, plane_bytes}
 use Rattle.block.specs.Block.{kept_frame, busy_field, total_of, rows_of}
 use Rattle.pulldown.specs.declared.Symbol.{Symbol}
-use Rattle.pulldown.specs.declared.Seen.{Seen}
-use Rattle.pulldown.specs.declared.Seen.TheVariants as seen
 use Rattle.pulldown.specs.declared.Lock.{Lock}
 use Rattle.pulldown.specs.Symbols.{symbol_of}
 use Rattle.pulldown.specs.Lock.{advance_of, fresh_lock}
@@ -23,14 +19,13 @@ use Rattle.pulldown.specs.Lock as lock
 use Rattle.telecine.specs.declared.Kept.{Kept}
 use Rattle.telecine.specs.declared.Detector.{Detector}
 use Rattle.telecine.specs.declared.Measured.{Measured}
-use Rattle.telecine.specs.declared.Measured.TheVariants as measured
 
 -- ---- fresh and reset
 abbrev pub nothing_kept : Kept
 nothing_kept = record { held = false; width = 0; height = 0; first = parity.Top }
 
 abbrev pub fresh_detector : Detector
-fresh_detector = record { lock = fresh_lock; kept = nothing_kept; last = chosen.Neither }
+fresh_detector = record { lock = fresh_lock; kept = nothing_kept; last = None }
 
 -- `push` forgets its kept frame at reset; `push_measured` still remembers the last parity after reset.
 abbrev pub reset_of : Detector → Detector
@@ -42,14 +37,13 @@ same_parity a b = eqb (first_row_of a) (first_row_of b)
 
 -- For `push_measured`, a frame cannot be compared when no frame came since fresh, when its leading parity differs from that of the last
 -- frame of either kind, or when no counts are given.
-abbrev pub led_by : Chosen → Parity → Bool
-led_by chosen.Neither first = false
-led_by (chosen.Field p) first = same_parity p first
+abbrev pub led_by : Option Parity → Parity → Bool
+led_by None first = false
+led_by (Some p) first = same_parity p first
 
-abbrev pub seen_measured : Chosen → Parity → Measured → Seen
-seen_measured last first measured.Absent = seen.NotComparable
-seen_measured last first (measured.Counts leading trailing) =
-    cond (led_by last first) (seen.Symbol (symbol_of leading.busy leading.total trailing.busy)) seen.NotComparable
+abbrev pub seen_measured : Option Parity → Parity → Option Measured → Option Symbol
+seen_measured last first None = None
+seen_measured last first (Some m) = cond (led_by last first) (Some (symbol_of m.leading.busy m.leading.total m.trailing.busy)) None
 
 -- For `push`, a frame cannot be compared when no frame is kept, when its width, height or leading parity differs from the kept frame's, or
 -- when its height is 1.
@@ -65,8 +59,8 @@ symbol_against store plane s first =
     symbol_of (busy_field plane s store (first_row_of first)) (total_of s.width (rows_of s.height (first_row_of first)))
     (busy_field plane s store (first_row_of (other_of first)))
 
-abbrev pub seen_picture : Kept → List ℕ → List ℕ → Shape → Parity → Seen
-seen_picture k store plane s first = cond (comparable k s first) (seen.Symbol (symbol_against store plane s first)) seen.NotComparable
+abbrev pub seen_picture : Kept → List ℕ → List ℕ → Shape → Parity → Option Symbol
+seen_picture k store plane s first = cond (comparable k s first) (Some (symbol_against store plane s first)) None
 
 -- ---- push_measured
 
@@ -78,15 +72,15 @@ abbrev pub measured_no : Detector → ℕ
 measured_no d = lowest (measured_tests d)
 
 -- the last parity after a frame that `first` leads, by the lock before it
-abbrev pub last_after : Lock → Chosen → Parity → Chosen
-last_after l last first = written (lock.push_no l) (chosen.Field first) last
+abbrev pub last_after : Lock → Option Parity → Parity → Option Parity
+last_after l last first = written (lock.push_no l) (Some first) last
 
-abbrev pub measured_cadence : Detector → Parity → Measured → Cadence
+abbrev pub measured_cadence : Detector → Parity → Option Measured → Cadence
 measured_cadence d first m = lock.push_cadence d.lock (seen_measured d.last first m)
 
-abbrev pub measured_detector : Detector → Parity → Measured → Detector
+abbrev pub measured_detector : Detector → Parity → Option Measured → Detector
 measured_detector d first m =
-    written (measured_no d) (record { lock = advance_of d.lock (seen_measured d.last first m); kept = d.kept; last = chosen.Field first }) d
+    written (measured_no d) (record { lock = advance_of d.lock (seen_measured d.last first m); kept = d.kept; last = Some first }) d
 
 -- ---- push
 
@@ -120,7 +114,7 @@ kept_as s first = record { held = true; width = s.width; height = s.height; firs
 abbrev pub push_detector : Detector → List ℕ → List ℕ → Shape → Parity → Detector
 push_detector d store plane s first =
     written (push_no d s (length plane) (length store))
-    (record { lock = advance_of d.lock (seen_picture d.kept store plane s first); kept = kept_as s first; last = chosen.Field first })
+    (record { lock = advance_of d.lock (seen_picture d.kept store plane s first); kept = kept_as s first; last = Some first })
     d
 
 -- the store is compared, and then overwritten

@@ -1,17 +1,14 @@
 -- Histories of calls on a fresh detector (docs/RULES.md, "Blocks and symbols", "Runs, phases, cadence", "What the desk gets back"). First what
 -- the calls leave, with the store lent back as it was left; then the same from the frames alone: what was seen of each, its run, and what
 -- is refused. Lists of calls are newest first.
-use Rattle.std.specs.Prelude.{ℕ, ◌*◌, Bool, cond, List, [], ◌∷◌, leb, ltb, eqb, length}
+use Rattle.std.specs.Prelude.{ℕ, ◌*◌, Bool, cond, List, [], ◌∷◌, leb, ltb, eqb, length, Option, Some, None}
 use Rattle.laws.specs.Refusal.{lowest}
 use Rattle.field.specs.declared.Cadence.{Cadence}
 use Rattle.field.specs.declared.Parity.{Parity}
-use Rattle.field.specs.declared.Chosen.{Chosen}
-use Rattle.field.specs.declared.Chosen.TheVariants as chosen
 use Rattle.plane.specs.declared.Shape.{Shape}
 use Rattle.plane.specs.Plane.{good_shape, plane_bytes}
 use Rattle.block.specs.Block.{kept_frame}
-use Rattle.pulldown.specs.declared.Seen.{Seen}
-use Rattle.pulldown.specs.declared.Seen.TheVariants as seen
+use Rattle.pulldown.specs.declared.Symbol.{Symbol}
 use Rattle.pulldown.specs.Runs.{Frame}
 use Rattle.pulldown.specs.Runs as runs
 use Rattle.telecine.specs.declared.Detector.{Detector}
@@ -22,7 +19,7 @@ use Rattle.telecine.specs.Detector.{push_no, push_cadence, push_detector, push_s
 -- a frame that is pushed: a picture with its shape and its leading parity, or counts with theirs
 pub data Push : Type 0 where
   picture : List ℕ → Shape → Parity → Push
-  measured : Parity → Measured → Push
+  measured : Parity → Option Measured → Push
 
 pub data Call : Type 0 where
   push : Push → Call
@@ -77,25 +74,25 @@ last_picture (push (measured first m) ∷ earlier) = last_picture earlier
 last_picture (reset ∷ earlier) = none
 
 -- the leading parity of the last frame of either kind since fresh
-abbrev pub last_parity : List Call → Chosen
-last_parity [] = chosen.Neither
-last_parity (push (picture plane s first) ∷ earlier) = chosen.Field first
-last_parity (push (measured first m) ∷ earlier) = chosen.Field first
+abbrev pub last_parity : List Call → Option Parity
+last_parity [] = None
+last_parity (push (picture plane s first) ∷ earlier) = Some first
+last_parity (push (measured first m) ∷ earlier) = Some first
 last_parity (reset ∷ earlier) = last_parity earlier
 
 -- what is seen of a picture against the last one, as that is kept
-abbrev pub seen_against : Last → List ℕ → Shape → Parity → Seen
-seen_against none plane s first = seen.NotComparable
+abbrev pub seen_against : Last → List ℕ → Shape → Parity → Option Symbol
+seen_against none plane s first = None
 seen_against (last old t led) plane s first =
-    cond (alike t.width t.height led s first) (seen.Symbol (symbol_against (kept_frame old t) plane s first)) seen.NotComparable
+    cond (alike t.width t.height led s first) (Some (symbol_against (kept_frame old t) plane s first)) None
 
 -- what is seen of a frame
-abbrev pub seen_of : Push → List Call → Seen
+abbrev pub seen_of : Push → List Call → Option Symbol
 seen_of (picture plane s first) earlier = seen_against (last_picture earlier) plane s first
 seen_of (measured first m) earlier = seen_measured (last_parity earlier) first m
 
 -- what was seen of each frame since fresh or reset
-abbrev pub seens : List Call → List Seen
+abbrev pub seens : List Call → List (Option Symbol)
 seens [] = []
 seens (push u ∷ earlier) = seen_of u earlier ∷ seens earlier
 seens (reset ∷ earlier) = []

@@ -3,27 +3,30 @@
 // Carried over from core/src/output/video/telecine.rs (`Detector`), and changed: the detector goes in and
 // comes back by value; window, lock and numbers of frames are `pulldown::Lock`; of the kept frame the
 // detector has the shape, and a lent store the samples; frames and looks ahead are bounded, and what
-// cannot be taken is refused by number.
+// cannot be taken is refused.
 //
 // The detector of 2:3 pulldown: pictures with a lent store, counts that were measured elsewhere, resets.
 #![tactic(auto)]
 
 ghost use Rattle.std.specs.Prelude.{◌≡◌, ◌*◌, length};
 ghost use Rattle.laws.specs.Refusal.{when_done};
+ghost use Rattle.refusal.specs.Refusal.{no_of, values_of};
 ghost use Rattle.field.specs.Field.{first_row_of};
 ghost use Rattle.plane.specs.Plane.{grid_shape};
 ghost use Rattle.block.specs.Answer.{count_no, counts_of};
-ghost use Rattle.pulldown.specs.Lock.{answer_no, answer_values, lock_with, locked_of, push_lock, predict_no, predict_cadence};
+ghost use Rattle.pulldown.specs.Lock.{lock_with, locked_of, push_lock, predict_no, predict_cadence};
 ghost use Rattle.pulldown.specs.Lock as lock;
-ghost use Rattle.telecine.specs.Detector.{fresh_detector, reset_of, same_parity, led_by, seen_measured, comparable, seen_picture, last_after, measured_no, measured_cadence, measured_detector, kept_bytes, push_no, push_values, push_detector, push_store};
+ghost use Rattle.telecine.specs.Detector.{fresh_detector, reset_of, seen_measured, comparable, seen_picture, last_after, measured_no, measured_cadence, measured_detector, kept_bytes, push_no, push_values, push_detector, push_store};
 
-use block::{Counted, Counts};
-use field::{Chosen, Parity};
-use plane::Grid;
-use pulldown::{Answer, Course, Lock, Seen};
+use block::Counts;
+use field::{Cadence, Parity};
+use plane::{Grid, Shape};
+use pulldown::{Course, Lock, Symbol};
+use refusal::Refusal;
 
-// The shape of the frame that the store keeps. Where none is held, the rest says nothing.
-#[derive(Clone, Copy)]
+// The shape of the frame that the store keeps. Where none is held, the rest says nothing; no Option, since a
+// host's state has numbers there all the same, and the exports' clauses speak of every one.
+#[derive(Clone, Copy, Debug, PartialEq, Eq)]
 pub struct Kept {
     pub held: bool,
     pub width: u16,
@@ -32,66 +35,52 @@ pub struct Kept {
     pub first: Parity,
 }
 
-#[derive(Clone, Copy)]
+#[derive(Clone, Copy, Debug, PartialEq, Eq)]
 pub struct Detector {
     pub lock: Lock,
     pub kept: Kept,
     // The field that led in the last frame of either kind, which a reset does not forget.
-    pub last: Chosen,
+    pub last: Option<Parity>,
 }
 
-// Counts of the leading field, then of the trailing. The trailing field's total is not looked at.
-#[derive(Clone, Copy)]
-pub enum Measured {
-    Absent,
-    Counts(Counts, Counts),
+// Counts of both fields of a frame. The trailing field's total is not looked at.
+#[derive(Clone, Copy, Debug, PartialEq, Eq)]
+pub struct Measured {
+    pub leading: Counts,
+    pub trailing: Counts,
 }
 
-#[derive(Clone, Copy)]
+#[derive(Clone, Copy, Debug, PartialEq, Eq)]
 pub struct Pushed {
     pub detector: Detector,
-    pub answer: Answer,
+    pub answer: Result<Cadence, Refusal>,
 }
 
 // What a frame leaves of the detector, apart from the ring and the kept frame, and its answer.
-#[derive(Clone, Copy)]
+#[derive(Clone, Copy, Debug, PartialEq, Eq)]
 pub struct Stepped {
     pub course: Course,
-    pub last: Chosen,
-    pub answer: Answer,
-}
-
-fn same_parity(a: Parity, b: Parity) -> bool
-    ensures { result ≡ same_parity a b }
-{
-    a.first_row() == b.first_row()
-}
-
-fn led_by(last: Chosen, first: Parity) -> bool
-    ensures { result ≡ led_by last first }
-{
-    match last {
-        Chosen::Field(parity) => same_parity(parity, first),
-        Chosen::Neither => false,
-    }
+    pub last: Option<Parity>,
+    pub answer: Result<Cadence, Refusal>,
 }
 
 // What counts tell of a frame that comes after one led by `last`.
-pub fn seen_measured(last: Chosen, first: Parity, measured: Measured) -> Seen
+pub fn seen_measured(
+    last: Option<Parity>,
+    first: Parity,
+    measured: Option<Measured>,
+) -> Option<Symbol>
     ensures { result ≡ seen_measured last first measured }
 {
-    match measured {
-        Measured::Absent => Seen::NotComparable,
-        Measured::Counts(leading, trailing) => {
-            if led_by(last, first) {
-                return Seen::Symbol(pulldown::classify_counts(
-                    leading.busy,
-                    leading.total,
-                    trailing.busy,
-                ));
-            }
-            Seen::NotComparable
-        }
+    let counts = measured?;
+    if last == Some(first) {
+        Some(pulldown::classify_counts(
+            counts.leading.busy,
+            counts.leading.total,
+            counts.trailing.busy,
+        ))
+    } else {
+        None
     }
 }
 
@@ -99,11 +88,10 @@ pub fn seen_measured(last: Chosen, first: Parity, measured: Measured) -> Seen
 fn can_compare(kept: Kept, grid: Grid, first: Parity) -> bool
     ensures { result ≡ comparable kept (grid_shape grid) first }
 {
-    let led = kept.first;
     kept.held
         & ((kept.width == grid.width)
             & (kept.height == grid.height)
-            & same_parity(led, first)
+            & (kept.first == first)
             & (grid.height != 1))
 }
 
@@ -112,30 +100,26 @@ fn counts_of(plane: &[u8], grid: Grid, store: &[u8], parity: Parity) -> Counts
     requires { count_no (grid_shape grid) (length plane.now) (length store.now) ≡ 0 }
     ensures { result ≡ counts_of plane.now (grid_shape grid) store.now (first_row_of parity) }
 {
-    let counted = block::count(plane, grid, store, parity);
-    match counted {
-        Counted::Value(counts) => counts,
-        Counted::Refused(_) => Counts { busy: 0, total: 0 },
-    }
+    block::count(plane, grid, store, parity).unwrap()
 }
 
 // What a picture shows against the kept frame.
-fn seen_picture(kept: Kept, store: &[u8], plane: &[u8], grid: Grid, first: Parity) -> Seen
+fn seen_picture(kept: Kept, store: &[u8], plane: &[u8], grid: Grid, first: Parity) -> Option<Symbol>
     requires { count_no (grid_shape grid) (length plane.now) (length store.now) ≡ 0 }
     ensures { result ≡ seen_picture kept store.now plane.now (grid_shape grid) first }
 {
     if can_compare(kept, grid, first) {
         let leading = counts_of(plane, grid, store, first);
         let trailing = counts_of(plane, grid, store, first.other());
-        return Seen::Symbol(pulldown::classify_counts(leading.busy, leading.total, trailing.busy));
+        return Some(pulldown::classify_counts(leading.busy, leading.total, trailing.busy));
     }
-    Seen::NotComparable
+    None
 }
 
 fn frame_bytes(height: u16, width: u16) -> usize
     ensures { result ≡ height * width }
 {
-    (height as usize) * (width as usize)
+    usize::from(height) * usize::from(width)
 }
 
 fn kept_bytes(kept: Kept) -> usize
@@ -148,48 +132,48 @@ fn kept_bytes(kept: Kept) -> usize
     }
 }
 
-// What refuses a picture.
-fn picture_no(detector: Detector, grid: Grid, bytes: usize, room: usize) -> u8
-    ensures { result ≡ push_no detector (grid_shape grid) bytes room }
+// Whether a picture of so many bytes can be taken, with a store of so many. Numbers 4, 6, 7 and 9.
+#[tactic(auto, unfolding(laws::specs::Refusal::lowest))]
+fn judge(detector: Detector, grid: Grid, bytes: usize, room: usize) -> Result<(), Refusal>
+    ensures { no_of result ≡ push_no detector (grid_shape grid) bytes room }
 {
-    let lock = detector.lock;
-    let course = lock.course;
-    let few = course.taken < pulldown::MOST_FRAMES;
-    let shape = plane::shape_of(grid);
-    let good = plane::good_shape(shape);
-    let long = plane::plane_bytes(shape) <= bytes;
-    let kept = detector.kept;
-    let held = kept_bytes(kept) <= room;
+    let shape = Shape::from(grid);
+    let long = shape.bytes() <= bytes;
+    let held = kept_bytes(detector.kept) <= room;
     let fits = frame_bytes(grid.height, grid.width) <= room;
-    let full = refusal::test(refusal::TOO_MANY_FRAMES, few, refusal::DONE);
-    let output = refusal::test(refusal::SHORT_OUTPUT, fits, full);
-    let input = refusal::test(refusal::SHORT_INPUT, long & held, output);
-    refusal::test(refusal::SHAPE, good, input)
+    Refusal::Shape.unless(shape.is_good())?;
+    Refusal::ShortInput.unless(long & held)?;
+    Refusal::ShortOutput.unless(fits)?;
+    Refusal::TooManyFrames.unless(detector.lock.course.taken < pulldown::MOST_FRAMES)
 }
 
 // Takes a frame of either kind, by what was seen of it: every push of a detector is this step. The ring is
 // changed in place. A refusal changes nothing.
 #[tactic(auto, unfolding(laws::specs::Refusal::lowest))]
-pub fn step(ring: &mut [u8; 15], course: Course, last: Chosen, first: Parity, seen: Seen) -> Stepped
+pub fn step(
+    ring: &mut [u8; 15],
+    course: Course,
+    last: Option<Parity>,
+    first: Parity,
+    seen: Option<Symbol>,
+) -> Stepped
     ensures course_after { lock_with ring.new result.course ≡ push_lock (lock_with ring.old course) seen }
     ensures last_value { result.last ≡ last_after (lock_with ring.old course) last first }
-    ensures answer_value { answer_no result.answer ≡ lock.push_no (lock_with ring.old course) }
-    ensures answer_value_2 { answer_values result.answer ≡ when_done (lock.push_no (lock_with ring.old course)) (lock.push_cadence (lock_with ring.old course) seen) }
+    ensures answer_value { no_of result.answer ≡ lock.push_no (lock_with ring.old course) }
+    ensures answer_value_2 { values_of result.answer ≡ when_done (lock.push_no (lock_with ring.old course)) (lock.push_cadence (lock_with ring.old course) seen) }
 {
     if pulldown::MOST_FRAMES <= course.taken {
         return Stepped {
-            course: course,
-            last: last,
-            answer: Answer::Refused(refusal::TOO_MANY_FRAMES),
+            course,
+            last,
+            answer: Err(Refusal::TooManyFrames),
         };
     }
     let pushed = pulldown::push_apart(ring, course, seen);
-    let after = pushed.course;
-    let answer = pushed.answer;
     Stepped {
-        course: after,
-        last: Chosen::Field(first),
-        answer: answer,
+        course: pushed.course,
+        last: Some(first),
+        answer: pushed.answer,
     }
 }
 
@@ -197,16 +181,15 @@ impl Detector {
     pub fn new() -> Detector
         ensures { result ≡ fresh_detector }
     {
-        let lock = Lock::new();
         Detector {
-            lock: lock,
+            lock: Lock::new(),
             kept: Kept {
                 held: false,
                 width: 0,
                 height: 0,
                 first: Parity::Top,
             },
-            last: Chosen::Neither,
+            last: None,
         }
     }
 
@@ -215,64 +198,50 @@ impl Detector {
         ensures { result ≡ reset_of self }
     {
         let fresh = Detector::new();
-        let old = self.lock;
-        let lock = old.reset();
-        let kept = fresh.kept;
-        let remembered = self.last;
         Detector {
-            lock: lock,
-            kept: kept,
-            last: remembered,
+            lock: fresh.lock,
+            kept: fresh.kept,
+            ..self
         }
     }
 
     pub fn locked(self) -> bool
         ensures { result ≡ locked_of self.lock }
     {
-        let lock = self.lock;
-        let locks = lock.locked();
-        locks
+        self.lock.locked()
     }
 
     // The cadence of the frame that comes after `ahead` others, as far as the lock tells it.
-    pub fn predict(self, ahead: u64) -> Answer
-        ensures { (answer_no result ≡ predict_no ahead) × (answer_values result ≡ when_done (predict_no ahead) (predict_cadence self.lock ahead)) }
+    pub fn predict(self, ahead: u64) -> Result<Cadence, Refusal>
+        ensures { (no_of result ≡ predict_no ahead) × (values_of result ≡ when_done (predict_no ahead) (predict_cadence self.lock ahead)) }
     {
-        let lock = self.lock;
-        lock.predict(ahead)
+        self.lock.predict(ahead)
     }
 
     // Takes counts. The kept frame stays.
-    pub fn push_measured(self, first: Parity, measured: Measured) -> Pushed
+    pub fn push_measured(self, first: Parity, measured: Option<Measured>) -> Pushed
         ensures detector_value { result.detector ≡ measured_detector self first measured }
-        ensures answer_value { answer_no result.answer ≡ measured_no self }
-        ensures answer_value_2 { answer_values result.answer ≡ when_done (measured_no self) (measured_cadence self first measured) }
+        ensures answer_value { no_of result.answer ≡ measured_no self }
+        ensures answer_value_2 { values_of result.answer ≡ when_done (measured_no self) (measured_cadence self first measured) }
     {
-        let last = self.last;
-        let lock = self.lock;
-        let mut ring = lock.ring;
-        let course = lock.course;
-        let kept = self.kept;
+        let mut ring = self.lock.ring;
         let stepped = step(
             &mut ring,
-            course,
-            last,
+            self.lock.course,
+            self.last,
             first,
-            seen_measured(last, first, measured),
+            seen_measured(self.last, first, measured),
         );
-        let after = stepped.course;
-        let led = stepped.last;
-        let answer = stepped.answer;
         Pushed {
             detector: Detector {
                 lock: Lock {
-                    ring: ring,
-                    course: after,
+                    ring,
+                    course: stepped.course,
                 },
-                kept: kept,
-                last: led,
+                last: stepped.last,
+                ..self
             },
-            answer: answer,
+            answer: stepped.answer,
         }
     }
 
@@ -282,43 +251,36 @@ impl Detector {
     #[tactic(auto, using(crate::proofs::Calls::picture_refused))]
     pub fn push(self, plane: &[u8], grid: Grid, first: Parity, store: &mut [u8]) -> Pushed
         ensures detector_value { result.detector ≡ push_detector self store.old plane.now (grid_shape grid) first }
-        ensures answer_value { answer_no result.answer ≡ push_no self (grid_shape grid) (length plane.now) (length store.old) }
-        ensures answer_value_2 { answer_values result.answer ≡ push_values self store.old plane.now (grid_shape grid) first }
+        ensures answer_value { no_of result.answer ≡ push_no self (grid_shape grid) (length plane.now) (length store.old) }
+        ensures answer_value_2 { values_of result.answer ≡ push_values self store.old plane.now (grid_shape grid) first }
         ensures store_after { store.new ≡ push_store self store.old plane.now (grid_shape grid) }
     {
-        let no = picture_no(self, grid, plane.len(), store.len());
-        if no != 0 {
+        if let Err(refusal) = judge(self, grid, plane.len(), store.len()) {
             return Pushed {
                 detector: self,
-                answer: Answer::Refused(no),
+                answer: Err(refusal),
             };
         }
-        let kept = self.kept;
-        let seen = seen_picture(kept, store, plane, grid, first);
-        let last = self.last;
-        let lock = self.lock;
-        let mut ring = lock.ring;
-        let course = lock.course;
-        let stepped = step(&mut ring, course, last, first, seen);
-        let after = stepped.course;
-        let leading = stepped.last;
-        let answer = stepped.answer;
-        block::keep(store, plane, grid);
+        let seen = seen_picture(self.kept, store, plane, grid, first);
+        let mut ring = self.lock.ring;
+        let stepped = step(&mut ring, self.lock.course, self.last, first, seen);
+        // A picture that was taken can be kept.
+        let _ = block::keep(store, plane, grid);
         Pushed {
             detector: Detector {
                 lock: Lock {
-                    ring: ring,
-                    course: after,
+                    ring,
+                    course: stepped.course,
                 },
                 kept: Kept {
                     held: true,
                     width: grid.width,
                     height: grid.height,
-                    first: first,
+                    first,
                 },
-                last: leading,
+                last: stepped.last,
             },
-            answer: answer,
+            answer: stepped.answer,
         }
     }
 }

@@ -1,4 +1,0 @@
-use Rattle.pulldown.proofs.same.Goals as goal
-
-pub returns : goal.returns
-returns c = simp (c.number_of.ensures, c.number_of-2.ensures)
