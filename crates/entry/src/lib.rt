@@ -91,6 +91,7 @@ impl Entry {
 // ---- entries one after another
 
 // Where the part's length is known, `entry_of` tests nothing at run time.
+#[tactic(auto, using(crate::proofs::Entries::entry_there))]
 fn entry_at(entries: &[u8], k: usize) -> Entry
     requires { 12 * k + 12 ≤ length entries.now }
     ensures { result ≡ entry_at entries.now k }
@@ -100,6 +101,7 @@ fn entry_at(entries: &[u8], k: usize) -> Entry
 }
 
 // Whether each of n entries names what it must.
+#[tactic(auto, using(crate::proofs::Entries::one_more, crate::proofs::Entries::none_yet))]
 fn all_good(entries: &[u8], n: usize) -> bool
     requires { 12 * n ≤ length entries.now }
     ensures { result ≡ every_below n (λ k. good_entry (entry_at entries.now k)) }

@@ -5,6 +5,7 @@ use mathlib.Core.Bool.{Bool, true, false, cond}
 use mathlib.Core.List.{List, [], ◌∷◌, ◌++◌, append_assoc}
 use native.Mathlib.Omega.{arith}
 use borrow.Author.Tests.{le-leb}
+use Rattle.std.specs.Prelude.{Option, Some, None}
 use lib.Dec.{eqb}
 use lib.ListN.{length, take, drop, length-append, length-set}
 use lib.Seq.{get_or-take, take_at, drop_at, drop-drop, length-take-le}
@@ -13,14 +14,12 @@ use Rattle.laws.specs.Rows.{over}
 use Rattle.laws.proofs.Lists.{length_listed}
 use Rattle.laws.proofs.Rows.{over_all}
 use Rattle.laws.proofs.Sums.{same_terms}
-use Rattle.field.specs.declared.Chosen.TheVariants as chosen
 use Rattle.field.specs.declared.Parity.{Parity}
 use Rattle.plane.specs.declared.Shape.{Shape}
 use Rattle.packed.specs.Packed.{packed_of, number_at, pack_no}
 use Rattle.packed.proofs.Claims.{packed_size}
 use Rattle.pulldown.specs.declared.Lock.{Lock}
-use Rattle.pulldown.specs.declared.Seen.{Seen}
-use Rattle.pulldown.specs.declared.Seen.TheVariants as seen
+use Rattle.pulldown.specs.declared.Symbol.{Symbol}
 use Rattle.pulldown.specs.Lock.{advance_of, push_lock}
 use Rattle.pulldown.specs.Lock as lock
 use Rattle.telecine.specs.declared.Detector.{Detector}
@@ -63,10 +62,10 @@ pub found_ring : (bytes : List ℕ) → length (detector_in bytes).lock.ring ≡
 unfolding detector_in
 found_ring bytes = length_listed 15 _
 
-pub advanced_ring : (l : Lock) (s : Seen) → length l.ring ≡ 15 → length (advance_of l s).ring ≡ 15
+pub advanced_ring : (l : Lock) (s : Option Symbol) → length l.ring ≡ 15 → length (advance_of l s).ring ≡ 15
 unfolding advance_of
-advanced_ring l seen.NotComparable e = e
-advanced_ring l (seen.Symbol s) e = length-set l.ring _ _ ∙ e
+advanced_ring l None e = e
+advanced_ring l (Some s) e = length-set l.ring _ _ ∙ e
 
 either_ring : (b : Bool) (x y : Detector) → length x.lock.ring ≡ 15 → length y.lock.ring ≡ 15 → length (cond b x y).lock.ring ≡ 15
 either_ring true x y e f = e
@@ -77,10 +76,10 @@ pub pushed_ring :
     length (push_detector d store plane s first).lock.ring ≡ 15
 pushed_ring d store plane s first e =
     let seen = seen_picture d.kept store plane s first in
-    either_ring (eqb (push_no d s (length plane) (length store)) 0) (record { lock = advance_of d.lock seen; kept = kept_as s first; last = chosen.Field first }) d
+    either_ring (eqb (push_no d s (length plane) (length store)) 0) (record { lock = advance_of d.lock seen; kept = kept_as s first; last = Some first }) d
     (advanced_ring d.lock seen e) e
 
-pub pushed_lock : (l : Lock) (s : Seen) → length l.ring ≡ 15 → length (push_lock l s).ring ≡ 15
+pub pushed_lock : (l : Lock) (s : Option Symbol) → length l.ring ≡ 15 → length (push_lock l s).ring ≡ 15
 pushed_lock l s e = either (eqb (lock.push_no l) 0)
   where
     either : (b : Bool) → length (cond b (advance_of l s) l).ring ≡ 15
