@@ -10,18 +10,16 @@ use lib.ListN.{length, drop}
 use lib.Dec.{leb, ltb}
 use borrow.Author.Tests.{ltb-true, ltb-false, lt-ltb, le-ltb, leb-true, leb-false, le-leb, lt-leb, not-true}
 use Rattle.laws.specs.Refusal.{lowest}
-use Rattle.field.specs.declared.Cadence.TheVariants.{None}
+use Rattle.field.specs.declared.Cadence.TheVariants as cadence
 use Rattle.pulldown.specs.declared.Symbol.{Symbol}
 use Rattle.pulldown.specs.declared.Symbol.TheVariants.{Still, Moved, RepeatFirst, RepeatSecond}
-use Rattle.pulldown.specs.declared.Seen.{Seen}
-use Rattle.pulldown.specs.declared.Seen.TheVariants as seen
+use Rattle.std.proofs.Common.{Option, Some, None}
 use Rattle.pulldown.specs.declared.Lock.{Lock}
-use Rattle.pulldown.specs.declared.Answer.TheVariants as answer
 use Rattle.pulldown.specs.Table.{cadence_at}
 use Rattle.pulldown.specs.Runs.{Frame, frame_of, step_of, Meets, meets, phase_of, lock_frame, contradicts, go_on, run_of, cadence_by, foretold}
 use Rattle.pulldown.specs.Lock.{advance_of, push_lock, lock_of}
 use Rattle.pulldown.specs.Claims.{Third, ThirdDemand, OnePhase, MeetsDecided, PhaseSays}
-use Rattle.pulldown.specs.Claims.{Contradicts, Runs, RunConsecutive, Locked, LockFrameSays, LockedSays, PredictSays, PushSays, PredictNo, AnswerSettled, CodeSeen}
+use Rattle.pulldown.specs.Claims.{Contradicts, Runs, RunConsecutive, Locked, LockFrameSays, LockedSays, PredictSays, PushSays, PredictNo, CodeSeen}
 use Rattle.laws.proofs.Bools.{known, clash, and_left, and_right}
 use Rattle.pulldown.proofs.Phases.{meets_of, meets_from, phase_is, phase_met, phase_none, no_phase, none_met, met_before}
 use Rattle.pulldown.proofs.Phases as phases
@@ -101,11 +99,11 @@ pub lock_frame_says : LockFrameSays
 lock_frame_says p run h m = locked p run h (meets_of p run m)
 
 -- ---- runs
-module _ (s : Symbol) (earlier : List Seen) where
+module _ (s : Symbol) (earlier : List (Option Symbol)) where
   abbrev f : Frame
   f = frame_of (length earlier) s
 
-  contradicting : Contradicts s earlier → run_of (seen.Symbol s ∷ earlier) ≡ []
+  contradicting : Contradicts s earlier → run_of (Some s ∷ earlier) ≡ []
   unfolding go_on contradicts
   contradicting c = rw (phase_is c.p (run_of earlier) c.below (meets_of _ _ c.met), lt-ltb c.p 5 c.below, c.neither)
 
@@ -120,7 +118,7 @@ module _ (s : Symbol) (earlier : List Seen) where
         neither = not-true _ (and_right (ltb (phase_of (run_of earlier)) 5) _ e);
       }
 
-  longer : (Contradicts s earlier → ⊥) → run_of (seen.Symbol s ∷ earlier) ≡ f ∷ run_of earlier
+  longer : (Contradicts s earlier → ⊥) → run_of (Some s ∷ earlier) ≡ f ∷ run_of earlier
   unfolding go_on
   longer none = ⊎_elim (λ e. absurd (none (contradicts_from e))) (λ e. rw e) (known (contradicts (phase_of (run_of earlier)) f))
 
@@ -142,8 +140,8 @@ consecutive_after false n s run before f earlier (g ∷ later) e = let z = befor
 pub run_consecutive : RunConsecutive
 unfolding go_on
 run_consecutive [] g earlier later e = absurd (no_frame g earlier later e)
-run_consecutive (seen.NotComparable ∷ seens) g earlier later e = absurd (no_frame g earlier later e)
-run_consecutive (seen.Symbol s ∷ seens) g earlier later e =
+run_consecutive (None ∷ seens) g earlier later e = absurd (no_frame g earlier later e)
+run_consecutive (Some s ∷ seens) g earlier later e =
     consecutive_after (contradicts (phase_of (run_of seens)) (frame_of (length seens) s)) (length seens) s (run_of seens) (run_consecutive seens) g earlier
     later e
 
@@ -160,20 +158,20 @@ predict_no_lem ahead =
     let z = done_or_refused (leb ahead 1000000) 10 (omega arith) in
     ((λ e. leb-false _ _ (z.0.0 e), λ h. z.0.1 (lt-leb _ _ h)), (λ e. leb-true _ _ (z.1.0 e), λ h. z.1.1 (le-leb _ _ h)))
 
-pub push_taken : (l : Lock) (s : Seen) → l.course.taken < 4000000000 → push_lock l s ≡ advance_of l s
+pub push_taken : (l : Lock) (s : Option Symbol) → l.course.taken < 4000000000 → push_lock l s ≡ advance_of l s
 unfolding lowest
 push_taken l s h = rw (lt-ltb l.course.taken 4000000000 h)
 
-push_refused : (l : Lock) (s : Seen) → 4000000000 ≤ l.course.taken → push_lock l s ≡ l
+push_refused : (l : Lock) (s : Option Symbol) → 4000000000 ≤ l.course.taken → push_lock l s ≡ l
 unfolding lowest
 push_refused l s h = rw (le-ltb l.course.taken 4000000000 h)
 
-pub one_taken : (l : Lock) (s : Seen) → (advance_of l s).course.taken ≡ l.course.taken + 1
+pub one_taken : (l : Lock) (s : Option Symbol) → (advance_of l s).course.taken ≡ l.course.taken + 1
 unfolding advance_of
-one_taken l seen.NotComparable = refl
-one_taken l (seen.Symbol s) = refl
+one_taken l None = refl
+one_taken l (Some s) = refl
 
-all_taken : (seens : List Seen) → (lock_of seens).course.taken ≡ min (length seens) 4000000000
+all_taken : (seens : List (Option Symbol)) → (lock_of seens).course.taken ≡ min (length seens) 4000000000
 all_taken [] = omega arith
 all_taken (s ∷ earlier) =
     let l = lock_of earlier in
@@ -195,28 +193,22 @@ push_says earlier s =
       unchanged = λ e. push_refused (lock_of earlier) s (ltb-false n 4000000000 (z.0.0 e));
     }
 
-pub answer_settled : AnswerSettled
-answer_settled (answer.Gave c) (answer.Gave d) n v = let e : c ≡ d = cc in ap answer.Gave e
-answer_settled (answer.Gave c) (answer.Refused k) n v = cc
-answer_settled (answer.Refused k) (answer.Gave c) n v = cc
-answer_settled (answer.Refused k) (answer.Refused j) n v = ap answer.Refused n
-
 pub code_seen : CodeSeen
-code_seen seen.NotComparable = refl
-code_seen (seen.Symbol Still) = refl
-code_seen (seen.Symbol Moved) = refl
-code_seen (seen.Symbol RepeatFirst) = refl
-code_seen (seen.Symbol RepeatSecond) = refl
+code_seen None = refl
+code_seen (Some Still) = refl
+code_seen (Some Moved) = refl
+code_seen (Some RepeatFirst) = refl
+code_seen (Some RepeatSecond) = refl
 
 -- ---- histories
-pub holds : (seens : List Seen) → length seens ≤ 4000000000 → Holds (lock_of seens) seens
+pub holds : (seens : List (Option Symbol)) → length seens ≤ 4000000000 → Holds (lock_of seens) seens
 holds [] h = holds_fresh
 holds (s ∷ earlier) h =
     let k = holds earlier (omega arith) in
     rw (push_taken (lock_of earlier) s (omega (arith, k.taken))) (holds_next (lock_of earlier) s earlier k)
 
 -- ---- demand 3
-not_none : (step : ℕ) → step < 5 → cadence_at step ≡ None → ⊥
+not_none : (step : ℕ) → step < 5 → cadence_at step ≡ cadence.None → ⊥
 not_none zero h e = let z : ◌≡◌ {A = ℕ} 0 1 = cc in omega arith
 not_none (suc zero) h e = let z : ◌≡◌ {A = ℕ} 0 1 = cc in omega arith
 not_none (suc (suc zero)) h e = let z : ◌≡◌ {A = ℕ} 0 1 = cc in omega arith
@@ -237,7 +229,7 @@ third n run = record {
     entry : (p : ℕ) → p < 5 → Meets p run → cadence_by (phase_of run) n ≡ cadence_at (step_of p n)
     entry p h m = rw (phase_is p run h (meets_of p run m), lt-ltb p 5 h)
 
-    unmet : phase_of run ≡ 5 → cadence_by (phase_of run) n ≡ None
+    unmet : phase_of run ≡ 5 → cadence_by (phase_of run) n ≡ cadence.None
     unmet e = rw e
 
 pub third_demand : ThirdDemand
@@ -255,7 +247,7 @@ locked_says seens h =
       λ m. rw (phase_is m.0 (run_of seens) m.1 (meets_of _ _ m.2)) (lt-ltb m.0 5 m.1),
     )
 
-foretold_by : (l : Lock) (seens : List Seen) (at : ℕ) → Holds l seens
+foretold_by : (l : Lock) (seens : List (Option Symbol)) (at : ℕ) → Holds l seens
     → foretold l.course.phase l.course.since at ≡ foretold (phase_of (run_of seens)) (lock_frame (run_of seens)) at
 unfolding foretold
 foretold_by l seens at h =

@@ -9,8 +9,7 @@ use lib.ListN.{length, take, set, length-set}
 use lib.Seq.{get_or-set_same, get_or-set_other, take-take}
 use Rattle.pulldown.specs.declared.Symbol.{Symbol}
 use Rattle.pulldown.specs.declared.Symbol.TheVariants.{Still, Moved, RepeatFirst, RepeatSecond}
-use Rattle.pulldown.specs.declared.Seen.{Seen}
-use Rattle.pulldown.specs.declared.Seen.TheVariants as seen
+use Rattle.std.proofs.Common.{Option, Some, None}
 use Rattle.pulldown.specs.declared.Lock.{Lock}
 use Rattle.pulldown.specs.Symbols.{symbol_number, same_symbol}
 use Rattle.pulldown.specs.Runs.{Frame, frame_of, stills_in_a_row, phase_of, lock_frame, contradicts, go_on, run_of}
@@ -63,7 +62,7 @@ held_or_not ring at n held false = refl
 abbrev pub window_of : Lock → List Frame
 window_of l = window l.ring ((l.course.next + 14) % 15) (l.course.taken - 1) l.course.held
 
-pub record Holds (l : Lock) (seens : List Seen) : Type 0 where
+pub record Holds (l : Lock) (seens : List (Option Symbol)) : Type 0 where
   pub long : length l.ring ≡ 15
   pub next : l.course.next < 15
   pub taken : l.course.taken ≡ length seens
@@ -83,7 +82,7 @@ holds_fresh = record {
   since = λ h. absurd (omega (arith, phase_of_none));
 }
 
-holds_without : (l : Lock) (seens : List Seen) → Holds l seens → Holds (without_symbol l) (seen.NotComparable ∷ seens)
+holds_without : (l : Lock) (seens : List (Option Symbol)) → Holds l seens → Holds (without_symbol l) (None ∷ seens)
 holds_without l seens h = record {
   long = h.long;
   next = h.next;
@@ -95,7 +94,7 @@ holds_without l seens h = record {
 }
 
 -- ---- a symbol more
-module _ (l : Lock) (s : Symbol) (seens : List Seen) (h : Holds l seens) where
+module _ (l : Lock) (s : Symbol) (seens : List (Option Symbol)) (h : Holds l seens) where
   abbrev run : List Frame
   run = run_of seens
 
@@ -131,7 +130,7 @@ module _ (l : Lock) (s : Symbol) (seens : List Seen) (h : Holds l seens) where
   since_is : phase_of (go_on f run) < 5 → (with_symbol l s).course.since ≡ lock_frame (go_on f run)
   since_is k = rw (left_is, h.taken) ((follows f run).since l.course.since h.since k)
 
-  holds_with : Holds (with_symbol l s) (seen.Symbol s ∷ seens)
+  holds_with : Holds (with_symbol l s) (Some s ∷ seens)
   holds_with = record {
     long = length-set l.ring (place l) (symbol_number s) ∙ h.long;
     next = omega arith;
@@ -143,7 +142,7 @@ module _ (l : Lock) (s : Symbol) (seens : List Seen) (h : Holds l seens) where
   }
 
 -- ---- a frame more
-pub holds_next : (l : Lock) (s : Seen) (seens : List Seen) → Holds l seens → Holds (advance_of l s) (s ∷ seens)
+pub holds_next : (l : Lock) (s : Option Symbol) (seens : List (Option Symbol)) → Holds l seens → Holds (advance_of l s) (s ∷ seens)
 unfolding advance_of
-holds_next l seen.NotComparable seens h = holds_without l seens h
-holds_next l (seen.Symbol s) seens h = holds_with l s seens h
+holds_next l None seens h = holds_without l seens h
+holds_next l (Some s) seens h = holds_with l s seens h

@@ -1,4 +1,5 @@
 -- Laws that the proofs of this crate share, and that later crates can cite.
+pub mod Symbols
 pub mod FirstPhase
 pub mod Walk
 pub mod Phases

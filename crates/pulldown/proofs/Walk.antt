@@ -1,7 +1,7 @@
 -- The walk of `agrees` back through the ring: what was passed, and what is left of the window.
-use Prim.Native.Nat.{ℕ, zero, suc, ◌+◌, ◌-◌, ◌%◌, ◌<◌, ◌≤◌}
+use Prim.Native.Nat.{ℕ, zero, suc, ◌+◌, ◌-◌, ◌%◌, ◌≤◌}
 use native.Mathlib.Omega.{arith}
-use mathlib.Core.Path.{◌≡◌, refl, ◌∙◌}
+use mathlib.Core.Path.{◌≡◌, refl, ◌∙◌, subst}
 use mathlib.Core.List.{List, ◌∷◌}
 use mathlib.Core.Bool.{true, false, ◌&&◌}
 use lib.ListN.{get_or}
@@ -22,29 +22,26 @@ pub record Walk (p : ℕ) (frames left : List Frame) (firsts seconds moved : ℕ
 pub begun : (p : ℕ) (frames : List Frame) → Walk p frames frames 0 0 0
 begun p frames = record { every = refl; first = omega arith; second = omega arith; move = omega arith }
 
--- the newest of the `left` frames, which has number n and stands at `at`
-module _ (p : ℕ) (frames : List Frame) (ring : List ℕ) (at n : ℕ) {firsts seconds moved : ℕ} (s : Symbol)
-    (e : s ≡ symbol_at (get_or ring at 0)) where
-  pub onward : (left : ℕ) → 0 < left → still_or_expected p (frame_of n s) ≡ true → Walk p frames (window ring at n left) firsts seconds moved
-      → Walk p frames (window ring ((at + 14) % 15) (n - 1) (left - 1)) (firsts + one_if s RepeatFirst) (seconds + one_if s RepeatSecond)
-      (moved + one_if s Moved)
-  onward zero h fit walk = absurd (omega arith)
-  onward (suc left) h fit walk =
-      let less : suc left - 1 ≡ left = omega arith in
-      let w : Walk p frames (frame_of n s ∷ window ring ((at + 14) % 15) (n - 1) left) firsts seconds moved = rw e walk in
-      rw less
-      (record {
-        every = w.every ∙ rw fit;
-        first = omega (arith, w.first);
-        second = omega (arith, w.second);
-        move = omega (arith, w.move);
-      })
+-- the newest of the frames that are left, which has number n and stands at `at`, and `rest` others
+module _ (p : ℕ) (frames : List Frame) (ring : List ℕ) (at n : ℕ) {firsts seconds moved left rest : ℕ} (s : Symbol)
+    (e : s ≡ symbol_at (get_or ring at 0)) (more : left ≡ suc rest) (walk : Walk p frames (window ring at n left) firsts seconds moved) where
+  ahead : Walk p frames (frame_of n s ∷ window ring ((at + 14) % 15) (n - 1) rest) firsts seconds moved
+  ahead = rw e (subst (λ (k : ℕ). Walk p frames (window ring at n k) firsts seconds moved) more walk)
 
-  pub stopped : (left : ℕ) → 0 < left → still_or_expected p (frame_of n s) ≡ false → Walk p frames (window ring at n left) firsts seconds moved
-      → agrees p frames ≡ false
+  pub onward :
+      still_or_expected p (frame_of n s) ≡ true
+      → Walk p frames (window ring ((at + 14) % 15) (n - 1) rest) (firsts + one_if s RepeatFirst) (seconds + one_if s RepeatSecond)
+      (moved + one_if s Moved)
+  onward fit = record {
+    every = ahead.every ∙ rw fit;
+    first = omega (arith, ahead.first);
+    second = omega (arith, ahead.second);
+    move = omega (arith, ahead.move);
+  }
+
+  pub stopped : still_or_expected p (frame_of n s) ≡ false → agrees p frames ≡ false
   unfolding agrees
-  stopped zero h unfit walk = absurd (omega arith)
-  stopped (suc left) h unfit walk = simp (walk.every, ← e, unfit)
+  stopped unfit = simp (ahead.every, unfit)
 
 pub ended : (p : ℕ) (frames : List Frame) (ring : List ℕ) (at n left firsts seconds moved : ℕ) → left ≤ 0
     → Walk p frames (window ring at n left) firsts seconds moved

@@ -3,7 +3,7 @@
 -- history starts fresh here.
 use Rattle.std.specs.Prelude.{ℕ, ◌+◌, min, ◌<◌, ◌≤◌, ◌≡◌, ◌↔◌, true, false, List, [], ◌∷◌, ◌++◌, length, drop, Option, Some, None}
 use Rattle.field.specs.declared.Cadence.{Cadence}
-use Rattle.field.specs.declared.Cadence.TheVariants as cadence
+use Rattle.field.specs.declared.Cadence.TheVariants as cadences
 use Rattle.pulldown.specs.declared.Symbol.{Symbol}
 use Rattle.pulldown.specs.Table.{cadence_at}
 use Rattle.pulldown.specs.Runs.{Frame, frame_of, step_of, still_or_expected, Meets, meets, phase_of, lock_frame, run_of, foretold}
@@ -15,7 +15,7 @@ use Rattle.pulldown.specs.Codes.{seen_code, seen_by}
 -- what the demand says of frame n, the newest of a run, and the cadence that it gets
 pub record Third (n : ℕ) (run : List Frame) (cadence : Cadence) : Type 0 where
   -- it is other than None exactly when some phase meets the four tests,
-  pub exactly : (cadence ≡ cadence.None → ⊥) ↔ ((p : ℕ) × (p < 5) × Meets p run)
+  pub exactly : (cadence ≡ cadences.None → ⊥) ↔ ((p : ℕ) × (p < 5) × Meets p run)
   -- and then it is the table entry of that phase's step; only one phase can meet them (`OnePhase`)
   pub entry : (p : ℕ) → p < 5 → Meets p run → cadence ≡ cadence_at (step_of p n)
 

@@ -155,6 +155,7 @@ fn step_of(phase: u8, n: u64) -> usize
     ((n % 5 + 5 - u64::from(phase)) % 5) as usize
 }
 
+#[tactic(auto, unfolding(crate::specs::Runs::still_or_expected))]
 fn still_or_expected(phase: u8, n: u64, symbol: Symbol) -> bool
     requires { phase < 5 }
     ensures { result ≡ still_or_expected phase (frame_of n symbol) }
@@ -188,6 +189,7 @@ fn agrees(ring: &[u8; 15], place: usize, n: u64, held: usize, phase: u8) -> bool
 }
 
 // The phase that the window agrees with. There is one at most, so the first is the only one.
+#[tactic(auto, using(crate::proofs::FirstPhase::first_here, crate::proofs::FirstPhase::first_none), unfolding(crate::specs::Lock::candidate_of))]
 fn candidate(ring: &[u8; 15], place: usize, n: u64, held: usize) -> u8
     requires { (place < 15) × (held ≤ 15) }
     ensures { result ≡ candidate_of (window ring.now place n held) }
@@ -208,16 +210,16 @@ fn locked_by(ring: &[u8; 15], place: usize, n: u64, held: usize) -> u8
     ensures { result ≡ locked_by (window ring.now place n held) n }
 {
     let phase = candidate(ring, place, n, held);
-    if phase < NO_PHASE {
-        if step_of(phase, n) < 2 {
-            return phase;
-        }
+    if phase < NO_PHASE && step_of(phase, n) < 2 {
+        phase
+    } else {
+        NO_PHASE
     }
-    NO_PHASE
 }
 
 // The same as `locked_by`, and sooner where the frames are too few for the repeats and moves that a
 // phase asks.
+#[tactic(auto, using(crate::proofs::Few::few_locked))]
 fn locked_among(ring: &[u8; 15], place: usize, n: u64, held: usize) -> u8
     requires { (place < 15) × (held ≤ 15) }
     ensures { result ≡ locked_by (window ring.now place n held) n }
@@ -229,6 +231,7 @@ fn locked_among(ring: &[u8; 15], place: usize, n: u64, held: usize) -> u8
     }
 }
 
+#[tactic(auto, unfolding(crate::specs::Runs::contradicts))]
 fn contradicts(phase: u8, n: u64, symbol: Symbol) -> bool
     ensures { result ≡ contradicts phase (frame_of n symbol) }
 {
@@ -251,17 +254,19 @@ fn cadence_by(phase: u8, n: u64) -> Cadence
 
 // What is left of the cycle in which the phase was locked is not foretold: it would lean on a field of
 // the frame before.
+#[tactic(auto, unfolding(crate::specs::Runs::foretold))]
 fn foretell(phase: u8, since: u64, at: u64) -> Cadence
     ensures { result ≡ foretold phase since at }
 {
-    if phase < NO_PHASE {
-        let step = step_of(phase, at);
-        if at.saturating_sub(step as u64) <= since {
-            return Cadence::None;
-        }
-        return BECOMES[step];
+    if NO_PHASE <= phase {
+        return Cadence::None;
     }
-    Cadence::None
+    let step = step_of(phase, at);
+    if at.saturating_sub(step as u64) <= since {
+        Cadence::None
+    } else {
+        BECOMES[step]
+    }
 }
 
 fn stills_after(stills: usize, symbol: Symbol) -> usize
@@ -365,13 +370,14 @@ fn take_symbol(ring: &mut [u8; 15], course: Course, symbol: Symbol) -> Course
     if after.phase < NO_PHASE {
         return after;
     }
-    let phase = locked_among(ring, course.next, course.taken, after.held);
+    let found = locked_among(ring, course.next, course.taken, after.held);
     Course {
-        phase: phase,
+        phase: found,
         ..after
     }
 }
 
+#[tactic(auto, using(crate::proofs::Step::ended), unfolding(crate::specs::Lock::advance_of))]
 fn take_seen(ring: &mut [u8; 15], course: Course, seen: Option<Symbol>) -> Course
     requires { course.taken < 4000000000 }
     ensures { lock_with ring.new result ≡ advance_of (lock_with ring.old course) seen }
@@ -470,6 +476,7 @@ pub fn seen_code(seen: Option<Symbol>) -> u8
 }
 
 // The step of `push_apart`, of a code and without its tests.
+#[tactic(auto, using(crate::proofs::Step::ended), unfolding(crate::specs::Lock::advance_of))]
 fn take_code(ring: &mut [u8; 15], course: Course, code: u8) -> Course
     requires { (course.next < 15) × (course.taken < 4000000000) }
     ensures { (lock_with ring.new result ≡ advance_of (lock_with ring.old course) (seen_by code)) × (result.next < 15) }

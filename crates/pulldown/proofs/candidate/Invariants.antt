@@ -1,5 +1,4 @@
 -- No phase below the one that is tried agrees.
-use Prim.Native.Nat.{◌-◌}
 use Rattle.pulldown.specs.Runs.{agrees}
 use Rattle.pulldown.specs.Lock.{window}
 use Rattle.pulldown.proofs.FirstPhase.{NoneBelow}
@@ -7,6 +6,3 @@ use Rattle.pulldown.proofs.candidate.Given as goal
 
 abbrev pub invariant-loop-phase : goal.invariant-loop-phase
 invariant-loop-phase l = NoneBelow (λ p. agrees p (window l.ring l.place l.n l.held)) l.phase
-
-abbrev pub decreases-loop-phase : goal.decreases-loop-phase
-decreases-loop-phase l = 5 - l.phase

@@ -1,8 +1,0 @@
-use mathlib.Core.Path.{sym, ◌∙◌}
-use Rattle.pulldown.proofs.stills_after.Goals as goal
-
-pub returns-then-same : goal.returns-then-same
-returns-then-same c = simp (sym c.same.ensures ∙ c.if-same.true, c.one_more.ensures)
-
-pub returns-else-same : goal.returns-else-same
-returns-else-same c = simp (sym c.same.ensures ∙ c.if-same.false)
