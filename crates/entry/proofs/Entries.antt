@@ -6,6 +6,7 @@ use native.Mathlib.Omega.{arith}
 use mathlib.Core.Path.{◌≡◌, refl, sym, ap, ap₂, ◌∙◌}
 use mathlib.Core.Bool.{Bool, true, ◌&&◌}
 use mathlib.Core.List.{List, [], ◌∷◌, ◌++◌}
+use Rattle.std.specs.Prelude.{Option, Some, None}
 use lib.ListN.{length, get_or, take, drop}
 use lib.Seq.{get_or-take, take_at, drop_at}
 use borrow.Author.Tests.{lt-ltb, le-leb}
@@ -109,25 +110,25 @@ module _ (bytes : List ℕ) where
     -- the output, of which the front was lent for the codes to give place to their cadences
     module _ (out : List ℕ) {made : List ℕ} (made-is : made ≡ over all out) where
       abbrev lent : List ℕ
-      lent = take (n - 0) (drop 0 made)
+      lent = take n made
 
       long : length all ≡ n
       long = length_listed n (code_at bytes)
 
-      whole : n - 0 ≡ n
-      whole = omega arith
-
       lent_is : lent ≡ all
-      lent_is = rw (whole, made-is) (take_at all (drop (length all) out) n long)
+      lent_is = rw made-is (take_at all (drop (length all) out) n long)
 
-      rest-is : drop (n - 0) (drop 0 made) ≡ drop n out
-      rest-is = rw (whole, made-is) (drop_at all (drop (length all) out) n long ∙ ap (λ (k : ℕ). drop k out) long)
+      rest-is : drop n made ≡ drop n out
+      rest-is = rw made-is (drop_at all (drop (length all) out) n long ∙ ap (λ (k : ℕ). drop k out) long)
 
       number_is : codes.codes_no (length lent) ≡ 0
       unfolding lowest
       number_is = rw (lent_is, long, le-leb n 4000000000 few)
 
-      pub all-written : {given : List ℕ} {no : ℕ} → no ≡ codes.codes_no (length lent) → given ≡ written no (codes.cadences_of lent) lent
-          → given ++ drop (n - 0) (drop 0 made) ≡ over (listed n (cadence_at bytes)) out
-      all-written no-is given_is =
+      pub none_refused : {no : ℕ} → no ≡ codes.codes_no (length lent) → no ≡ 0
+      none_refused no-is = no-is ∙ number_is
+
+      pub all_written : {given : List ℕ} {no : ℕ} → no ≡ codes.codes_no (length lent) → given ≡ written no (codes.cadences_of lent) lent
+          → given ++ drop n made ≡ over (listed n (cadence_at bytes)) out
+      all_written no-is given_is =
           rw (given_is, no-is, number_is, lent_is, cadences_there, rest-is, length_listed n (cadence_at bytes))

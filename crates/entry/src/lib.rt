@@ -107,8 +107,8 @@ fn all_good(entries: &[u8], n: usize) -> bool
     ensures { result ≡ every_below n (λ k. good_entry (entry_at entries.now k)) }
 {
     let mut good = true;
-    for k in 0..n {
-        good &= entry_at(entries, k).good();
+    for judged in 0..n {
+        good &= entry_at(entries, judged).good();
     }
     good
 }
@@ -126,6 +126,7 @@ fn judge(entries: &[u8], room: usize) -> Result<(), Refusal>
 }
 
 // What is seen of each of n entries that were judged, as a code.
+#[tactic(auto, using(laws::proofs::Rows::over_none, laws::proofs::Rows::over_more, crate::proofs::Entries::code_given, crate::proofs::Entries::last_left), unfolding(crate::specs::Entry::earlier_than))]
 fn write_codes(out: &mut [u8], entries: &[u8], n: usize)
     requires { EntriesReady n (length entries.now) (length out.old) }
     ensures { out.new ≡ over (listed n (code_at entries.now)) out.old }

@@ -1,12 +1,13 @@
 -- What is made of a detector's answer is what Machine says of the push.
-use Prim.Native.Nat.{ℕ, ◌-◌, ◌≤◌}
+use Prim.Native.Nat.{ℕ, ◌-◌, ◌≤◌, ◌<◌}
 use mathlib.Core.Path.{◌≡◌, refl, ap, ◌∙◌}
 use mathlib.Core.Bool.{true, false, cond}
-use Rattle.std.specs.Prelude.{Option, Result, Ok, Err}
+use Rattle.std.specs.Prelude.{Option, Some, None, Result, Ok, Err}
 use mathlib.Core.List.{List, []}
+use native.Mathlib.Omega.{arith}
 use lib.Dec.{eqb}
 use lib.ListN.{length}
-use borrow.Author.Tests.{le-leb}
+use borrow.Author.Tests.{le-leb, lt-leb}
 use Rattle.laws.specs.Refusal.{lowest, when_done}
 use Rattle.laws.proofs.Refusal.{done_equal}
 use Rattle.field.specs.declared.Cadence.{Cadence}
@@ -15,21 +16,23 @@ use Rattle.field.specs.Field.{parity_named}
 use Rattle.refusal.specs.declared.Refusal.{Refusal}
 use Rattle.refusal.specs.declared.Refusal.TheVariants as refusal
 use Rattle.refusal.specs.Refusal.{number_of, no_of, values_of}
+use Rattle.plane.specs.Plane.{good_shape, grid_shape}
 use Rattle.pulldown.specs.Lock.{locked_of}
 use Rattle.telecine.specs.declared.Detector.{Detector}
 use Rattle.telecine.specs.declared.Pushed.{Pushed}
 use Rattle.telecine.specs.declared.Measured.{Measured}
-use Rattle.telecine.specs.Detector.{measured_no, measured_cadence, measured_detector}
-use Rattle.telecine.specs.History.{Push, measured, push, number_in, cadence_in, next}
+use Rattle.telecine.specs.Detector.{measured_no, measured_cadence, measured_detector, push_no, push_values, push_detector, push_store}
+use Rattle.telecine.specs.History.{Push, picture, measured, push, number_in, cadence_in, next}
 use Rattle.entry.specs.declared.Entry.{Entry}
 use Rattle.entry.specs.Entry.{entry_of, good_entry, measured_in}
 use Rattle.reel.specs.declared.Said.TheVariants.{Frame, Fault}
+use Rattle.reel.specs.declared.Pictured.{Pictured}
 use Rattle.reel.specs.declared.Stage.{Stage}
 use Rattle.reel.specs.declared.Stage.TheVariants.{Entries, Pictures}
 use Rattle.reel.specs.declared.Reel.{Reel}
 use Rattle.reel.specs.declared.Next.{Next}
 use Rattle.reel.specs.Reel.{picture_bytes, refused}
-use Rattle.reel.specs.Machine.{reel_of, close, tallied_in, state_of, pushed_of, entry_unit_of, picture_in, picture_unit_of}
+use Rattle.reel.specs.Machine.{reel_of, close, tallied_in, state_of, pushed_of, entry_unit_of, picture_in, picture_unit_of, picture_store}
 use Rattle.reel.specs.Inner.{answered_as, pushed_as}
 
 -- ---- a refusal and its number
@@ -94,13 +97,39 @@ push_leads r stage store u p d e v =
     ∙ answered r stage (next (state_of r store) (push u)).detector (number_in (state_of r store) u) (cadence_in (state_of r store) u) p.answer e v
 
 -- a picture that was read whole
-pub picture_leads : (r : Reel) (n : ℕ) (store u : List ℕ) (p : Pushed) → picture_bytes r.pictured ≤ length u
-    → p.detector ≡ (next (state_of r store) (push (picture_in r u))).detector
-    → no_of p.answer ≡ number_in (state_of r store) (picture_in r u)
-    → values_of p.answer ≡ when_done (number_in (state_of r store) (picture_in r u)) (cadence_in (state_of r store) (picture_in r u))
+pub picture_leads : (r : Reel) (n : ℕ) (store u : List ℕ) (shown : Pictured) (p : Pushed) → r.pictured ≡ Some shown → picture_bytes r.pictured ≤ length u
+    → p.detector ≡ push_detector r.detector store u (grid_shape shown.shape) shown.first
+    → no_of p.answer ≡ push_no r.detector (grid_shape shown.shape) (length u) (length store)
+    → values_of p.answer ≡ push_values r.detector store u (grid_shape shown.shape) shown.first
     → pushed_as r (Pictures (n - 1)) p ≡ picture_unit_of r n store u
 unfolding picture_unit_of
-picture_leads r n store u p long d e v = push_leads r (Pictures (n - 1)) store (picture_in r u) p d e v ∙ rw (le-leb _ _ long)
+picture_leads r n store u shown p given long d e v =
+    push_leads r (Pictures (n - 1)) store (picture u (grid_shape shown.shape) shown.first) p d e v ∙ rw (le-leb _ _ long, given)
+
+pub picture_kept : (r : Reel) (store u new : List ℕ) (shown : Pictured) → r.pictured ≡ Some shown → picture_bytes r.pictured ≤ length u
+    → new ≡ push_store r.detector store u (grid_shape shown.shape) → new ≡ picture_store r store u
+unfolding picture_store
+picture_kept r store u new shown given long e = e ∙ rw (le-leb _ _ long, given)
+
+-- one that was not
+pub short_closes : (r : Reel) (n : ℕ) (store u : List ℕ) → length u < picture_bytes r.pictured
+    → close r (Fault refusal.ShortInput) ≡ picture_unit_of r n store u
+unfolding picture_unit_of
+short_closes r n store u short = rw (lt-leb _ _ short)
+
+pub short_keeps : (r : Reel) (store u : List ℕ) → length u < picture_bytes r.pictured → store ≡ picture_store r store u
+unfolding picture_store
+short_keeps r store u short = rw (lt-leb _ _ short)
+
+-- and one that came though no shape is given
+pub shapeless_closes : (r : Reel) (n : ℕ) (store u : List ℕ) → r.pictured ≡ None
+    → close r (Fault refusal.Shape) ≡ picture_unit_of r n store u
+unfolding picture_unit_of pushed_of lowest good_shape
+shapeless_closes r n store u none = rw (none, le-leb 0 (length u) (omega arith))
+
+pub shapeless_keeps : (r : Reel) (store u : List ℕ) → r.pictured ≡ None → store ≡ picture_store r store u
+unfolding picture_store lowest good_shape
+shapeless_keeps r store u none = rw (none, le-leb 0 (length u) (omega arith))
 
 -- an entry that was read whole and is good; what the store holds does not matter
 pub entry_leads : (r : Reel) (n : ℕ) (u : List ℕ) (entry : Entry) (first : Parity) (m : Option Measured) (p : Pushed) → 12 ≤ length u
@@ -112,3 +141,7 @@ pub entry_leads : (r : Reel) (n : ℕ) (u : List ℕ) (entry : Entry) (first : P
 unfolding entry_unit_of lowest
 entry_leads r n u entry first m p long read good led numbers d e v =
     push_leads r (Entries (n - 1)) [] (measured first m) p d e v ∙ rw (le-leb _ _ long, ← read, good, led, numbers)
+
+pub any_store : (r : Reel) (n : ℕ) (store u : List ℕ) → entry_unit_of r n [] u ≡ entry_unit_of r n store u
+unfolding entry_unit_of pushed_of
+any_store r n store u = refl

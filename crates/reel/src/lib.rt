@@ -235,6 +235,7 @@ impl Reel {
         }
     }
 
+    #[tactic(auto, using(crate::proofs::Pushes::closes, crate::proofs::Pushes::goes_on, crate::proofs::Cut::judged_cut, crate::proofs::Cut::uncut), unfolding(crate::specs::Machine::shape_numbers_of))]
     fn shape_numbers(self, unit: &[u8]) -> Result<Next, Refusal>
         ensures { closed self result ≡ shape_numbers_of self unit.now }
     {
@@ -269,6 +270,7 @@ impl Reel {
         self.pushed(Stage::Entries(n - 1), pushed)
     }
 
+    #[tactic(auto, using(crate::proofs::Pushes::closes, crate::proofs::Pushes::goes_on), unfolding(crate::specs::Machine::picture_count_of))]
     fn picture_count(self, unit: &[u8]) -> Result<Next, Refusal>
         ensures { closed self result ≡ picture_count_of self unit.now }
     {
@@ -280,13 +282,19 @@ impl Reel {
 
     // The first of n pictures. Where no shape is given none is counted; one that came all the same would have
     // a shape of 0 rows.
+    #[tactic(auto, using(crate::proofs::Pushes::picture_leads, crate::proofs::Pushes::picture_kept, crate::proofs::Pushes::short_closes, crate::proofs::Pushes::short_keeps, crate::proofs::Pushes::shapeless_closes, crate::proofs::Pushes::shapeless_keeps))]
     fn picture_unit(self, n: u16, store: &mut [u8], unit: &[u8]) -> Result<Next, Refusal>
         requires { 0 < n }
-        ensures { (closed self result ≡ picture_unit_of self n store.old unit.now) × (store.new ≡ picture_store self store.old unit.now) }
+        ensures value { closed self result ≡ picture_unit_of self n store.old unit.now }
+        ensures store_after { store.new ≡ picture_store self store.old unit.now }
     {
-        let Pictured { shape, first } = self.pictured.ok_or(Refusal::Shape)?;
+        let Some(pictured) = self.pictured else {
+            return Err(Refusal::Shape);
+        };
         Refusal::ShortInput.unless(picture_bytes(self.pictured) <= unit.len() as u64)?;
-        let pushed = self.detector.push(unit, shape, first, store);
+        let pushed = self
+            .detector
+            .push(unit, pictured.shape, pictured.first, store);
         self.pushed(Stage::Pictures(n - 1), pushed)
     }
 
@@ -298,8 +306,10 @@ impl Reel {
         Ok(self.close(Said::Totals(self.tally)))
     }
 
+    #[tactic(auto, using(crate::proofs::Pushes::any_store), unfolding(crate::specs::Machine::next_of, crate::specs::Machine::store_after))]
     fn unit(self, store: &mut [u8], unit: &[u8]) -> Result<Next, Refusal>
-        ensures { (closed self result ≡ next_of self store.old unit.now) × (store.new ≡ store_after self store.old unit.now) }
+        ensures value { closed self result ≡ next_of self store.old unit.now }
+        ensures store_after { store.new ≡ store_after self store.old unit.now }
     {
         match self.stage {
             Stage::ShapeCount => self.shape_count(unit),
