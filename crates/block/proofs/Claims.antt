@@ -16,10 +16,9 @@ use Rattle.laws.proofs.Lists.{length_listed, same_listed, listed_at, same_laid, 
 use Rattle.plane.specs.declared.Shape.{Shape}
 use Rattle.plane.specs.Plane.{code_of}
 use Rattle.plane.proofs.Claims.{code_within_depth, word_above_is_full}
-use Rattle.block.specs.declared.Counted.TheVariants.{Value, Refused}
 use Rattle.block.specs.Block.{kept_of, kept_frame, stored_of, field_of, rows_of, one_if, differs, columns_in, rows_in, differing, busy, blocks_across, bands_down, busy_of, busy_field}
 use Rattle.block.specs.Answer.{count_tests, keep_tests}
-use Rattle.block.specs.Claims.{CountSays, KeepSays, OneCounted, KeptIsUpper, AboveIsKeptFull, CodesSettle, KeptReadsBack, SamplesSettle, NearIsQuiet, SameFrameIsQuiet, KeptFrameIsQuiet}
+use Rattle.block.specs.Claims.{CountSays, KeepSays, KeptIsUpper, AboveIsKeptFull, CodesSettle, KeptReadsBack, SamplesSettle, NearIsQuiet, SameFrameIsQuiet, KeptFrameIsQuiet}
 use Rattle.block.proofs.Rows.{frame_within, upper_fits, upper_full}
 
 pub count_says : CountSays
@@ -29,12 +28,6 @@ count_says s bytes room = lowest_says (count_tests s bytes room) tt
 pub keep_says : KeepSays
 unfolding rising
 keep_says s bytes room = lowest_says (keep_tests s bytes room) tt
-
-pub one_counted : OneCounted
-one_counted (Value counts) (Value other) numbers values = cc
-one_counted (Value counts) (Refused n) numbers values = cc
-one_counted (Refused n) (Value counts) numbers values = cc
-one_counted (Refused n) (Refused m) numbers values = cc
 
 pub kept_is_upper : KeptIsUpper
 unfolding kept_of

@@ -13,7 +13,9 @@ use Rattle.laws.proofs.Sums.{same_terms, one_more, sum_at_most}
 use Rattle.plane.specs.declared.Shape.{Shape}
 use Rattle.block.specs.Block.{kept_of, stored_of, field_of, one_if, differs, columns_in, rows_in, differing, busy, blocks_across}
 use Rattle.block.specs.Rows.{KeptRow}
-use Rattle.block.specs.Counters.{differing_in, differing_row, band_row, busy_by, Added}
+use Rattle.plane.specs.Plane.{good_shape}
+use Rattle.plane.proofs.Bounds.{good_within}
+use Rattle.block.specs.Counters.{differing_in, differing_row, band_row, busy_by, Counters, Added}
 use Rattle.laws.proofs.Lists.{part_length, part_at}
 
 -- ---- counter after counter
@@ -44,7 +46,7 @@ row_at_most bytes s store y b =
     omega
     (arith, sum_at_most (columns_in s.width b) 1 _ (λ x l. one_at_most (differs (kept_of bytes s (16 * b + x) y) (stored_of store s.width (16 * b + x) y))))
 
-pub rows_at_most :
+rows_at_most :
     (bytes : List ℕ) (s : Shape) (store : List ℕ) (first top i b : ℕ) → sum_over i (λ k. band_row bytes s store first top k b) ≤ i * 16
 rows_at_most bytes s store first top i b = sum_at_most i 16 _ (λ k l. row_at_most bytes s store (2 * (top + k) + first) b)
 
@@ -110,12 +112,22 @@ module _ (many : ℕ) {new : List ℕ} {more : ℕ → ℕ} {n : ℕ} (a : Added
   pub counted : (b : ℕ) → b < n → get_or new b 0 ≡ more b
   counted b l = omega (arith, a.grown b l, zero_at many b)
 
-  pub counted_at_most : (most : ℕ) → ((b : ℕ) → more b ≤ most) → (b : ℕ) → get_or new b 0 ≤ most
+  counted_at_most : (most : ℕ) → ((b : ℕ) → more b ≤ most) → (b : ℕ) → get_or new b 0 ≤ most
   counted_at_most most h b = either (dec_lt b n)
     where
       either : Dec (b < n) → get_or new b 0 ≤ most
       either (yes l) = omega (arith, counted b l, h b)
       either (no l) = omega (arith, a.same b (omega (arith, l)), zero_at many b)
+
+-- counters of the first rows of a band, eight at most
+pub band_ready :
+    (bytes : List ℕ) (s : Shape) (store : List ℕ) (first top : ℕ) {counters : List ℕ} {i n : ℕ} → good_shape s ≡ true → i ≤ 8 → length counters ≡ 512 →
+    Added (replicate 512 0) counters (λ b. sum_over i (λ k. band_row bytes s store first top k b)) n → Counters counters s.width
+band_ready bytes s store first top {counters} {i} good few long added = record {
+  many = long;
+  low = counted_at_most 512 added 128 (λ b. omega (arith, rows_at_most bytes s store first top i b));
+  narrow = (good_within s good).width_most;
+}
 
 -- the busy blocks depend on the counts alone
 pub same_busy :

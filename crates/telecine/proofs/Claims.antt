@@ -7,21 +7,20 @@ use mathlib.Core.List.{List, [], ◌∷◌, ◌++◌}
 use lib.Dec.{eqb}
 use lib.ListN.{length}
 use borrow.Author.Tests.{ne_eqb}
+use Rattle.std.proofs.Common.{Option, Some, None}
+use Rattle.pulldown.specs.declared.Symbol.{Symbol}
 use Rattle.laws.specs.Refusal.{rising, written}
 use Rattle.laws.specs.Rows.{over}
 use Rattle.laws.proofs.Claims.{lowest_says}
 use Rattle.field.specs.declared.Parity.{Parity}
 use Rattle.field.specs.declared.Parity.TheVariants as parity
-use Rattle.field.specs.declared.Chosen.TheVariants as chosen
 use Rattle.field.specs.Field.{first_row_of, other_of}
 use Rattle.block.specs.Block.{total_of, rows_of}
 use Rattle.block.proofs.Claims as block
-use Rattle.pulldown.specs.declared.Seen.{Seen}
-use Rattle.pulldown.specs.declared.Seen.TheVariants as seen
 use Rattle.pulldown.specs.Symbols.{symbol_of}
 use Rattle.pulldown.specs.Lock.{lock_of, advance_of}
 use Rattle.pulldown.specs.Lock as lock
-use Rattle.pulldown.proofs.Claims.{answer_settled}
+use Rattle.refusal.proofs.Claims.{one_answered}
 use Rattle.pulldown.proofs.Claims as lock-proofs
 use Rattle.telecine.specs.Detector.{comparable, symbol_against, seen_picture, kept_as, measured_tests, push_tests, push_no}
 use Rattle.telecine.specs.History.{Push, picture, measured, Call, push, reset, State, next, after, number_of, cadence_of, last_picture, last_parity, seen_of, seens, refusal_tests, refusal_of, taken}
@@ -107,12 +106,12 @@ codes_settle state plane plane' s first long same =
     let kept = (block.codes_settle plane plane' s store 0 (omega arith) same).0 in
     let total = total_of s.width (rows_of s.height (first_row_of first)) in
     let seen : seen_picture d.kept store plane s first ≡ seen_picture d.kept store plane' s first =
-    (λ i. cond (comparable d.kept s first) (seen.Symbol (symbol_of (leading i) total (trailing i))) seen.NotComparable) in (
+    (λ i. cond (comparable d.kept s first) (Some (symbol_of (leading i) total (trailing i))) None) in (
       (λ i. push_no d s (long i) (length store)),
       (λ i. lock.push_cadence d.lock (seen i)),
       (λ i. record {
         detector =
-            written (push_no d s (long i) (length store)) (record { lock = advance_of d.lock (seen i); kept = kept_as s first; last = chosen.Field first }) d;
+            written (push_no d s (long i) (length store)) (record { lock = advance_of d.lock (seen i); kept = kept_as s first; last = Some first }) d;
         store = written (push_no d s (long i) (length store)) (over (kept i) store) store;
       }),
     )
@@ -145,7 +144,7 @@ same_refusal room (picture plane s first) a b h = rw h.seen
 same_refusal room (measured first m) a b h = rw h.seen
 
 same_seens : (u : Push) (a b : List Call) → Same a b → seens (push u ∷ a) ≡ seens (push u ∷ b)
-same_seens u a b h = ap₂ (λ (s : Seen) (earlier : List Seen). s ∷ earlier) (same_frame u a b h) h.seen
+same_seens u a b h = ap₂ (λ (s : Option Symbol) (earlier : List (Option Symbol)). s ∷ earlier) (same_frame u a b h) h.seen
 
 same_push : (u : Push) (a b : List Call) → Same a b → Same (push u ∷ a) (push u ∷ b)
 same_push (picture plane s first) a b h = record { seen = same_seens (picture plane s first) a b h; picture = refl; parity = refl }
@@ -181,4 +180,4 @@ reset_is_fresh d none = rw none
 -- ---- results
 pub pushed_settled : PushedSettled
 pushed_settled a b same number values =
-    λ i. record { detector = same i; answer = answer_settled a.answer b.answer number values i }
+    λ i. record { detector = same i; answer = one_answered _ a.answer b.answer number values i }

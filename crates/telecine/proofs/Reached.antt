@@ -8,6 +8,8 @@ use mathlib.Core.List.{List, [], ◌∷◌, ◌++◌}
 use lib.Dec.{leb, eqb}
 use lib.ListN.{length, drop, length-append, length-drop}
 use borrow.Author.Tests.{leb-true, ltb-true, le-leb, ne_eqb}
+use Rattle.std.proofs.Common.{Option}
+use Rattle.pulldown.specs.declared.Symbol.{Symbol}
 use Rattle.laws.specs.Refusal.{rising}
 use Rattle.laws.proofs.Refusal.{all_pass}
 use Rattle.field.specs.declared.Parity.{Parity}
@@ -15,7 +17,6 @@ use Rattle.plane.specs.declared.Shape.{Shape}
 use Rattle.plane.specs.Plane.{plane_bytes}
 use Rattle.block.specs.Block.{kept_frame}
 use Rattle.pulldown.specs.declared.Lock.{Lock}
-use Rattle.pulldown.specs.declared.Seen.{Seen}
 use Rattle.pulldown.specs.Lock.{advance_of, push_cadence, lock_of}
 use Rattle.pulldown.proofs.Claims.{holds, push_taken}
 use Rattle.telecine.specs.declared.Measured.{Measured}
@@ -77,11 +78,11 @@ module _ (room : ℕ) (state : State) (earlier : List Call) (h : Reached room st
       → seen_picture state.detector.kept state.store plane s first ≡ seen_of (picture plane s first) earlier
   picture_seen plane s first = rw (h.kept, h.begins) (same_seen (last_picture earlier) h.rest plane s first)
 
-  measured_seen : (first : Parity) (m : Measured) → seen_measured state.detector.last first m ≡ seen_of (measured first m) earlier
+  measured_seen : (first : Parity) (m : Option Measured) → seen_measured state.detector.last first m ≡ seen_of (measured first m) earlier
   measured_seen first m = rw h.last
 
   -- the lock with a frame more
-  lock_next : (u : Push) (s : Seen) → s ≡ seen_of u earlier → frames_of earlier < 4000000000
+  lock_next : (u : Push) (s : Option Symbol) → s ≡ seen_of u earlier → frames_of earlier < 4000000000
       → advance_of state.detector.lock s ≡ lock_of (seens (push u ∷ earlier))
   lock_next u s e few =
       rw (e, h.lock) (sym (push_taken (lock_of (seens earlier)) (seen_of u earlier) (omega (arith, few, (holds (seens earlier) h.few).taken))))

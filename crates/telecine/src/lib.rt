@@ -104,6 +104,7 @@ fn counts_of(plane: &[u8], grid: Grid, store: &[u8], parity: Parity) -> Counts
 }
 
 // What a picture shows against the kept frame.
+#[tactic(auto, unfolding(crate::specs::Detector::symbol_against))]
 fn seen_picture(kept: Kept, store: &[u8], plane: &[u8], grid: Grid, first: Parity) -> Option<Symbol>
     requires { count_no (grid_shape grid) (length plane.now) (length store.now) ≡ 0 }
     ensures { result ≡ seen_picture kept store.now plane.now (grid_shape grid) first }
@@ -248,7 +249,6 @@ impl Detector {
     // Takes a picture: compares it with the frame that the store keeps, and then keeps it there. Codes are
     // not shifted, and one above 2^depth - 1 counts as that: a biplanar luma deeper than 8 bits goes through
     // readback first.
-    #[tactic(auto, using(crate::proofs::Calls::picture_refused))]
     pub fn push(self, plane: &[u8], grid: Grid, first: Parity, store: &mut [u8]) -> Pushed
         ensures detector_value { result.detector ≡ push_detector self store.old plane.now (grid_shape grid) first }
         ensures answer_value { no_of result.answer ≡ push_no self (grid_shape grid) (length plane.now) (length store.old) }

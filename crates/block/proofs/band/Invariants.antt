@@ -1,5 +1,4 @@
 -- The loop keeps `Added` of the rows passed.
-use Prim.Native.Nat.{◌-◌, ◌≤◌}
 use mathlib.Core.Path.{◌≡◌}
 use lib.ListN.{length}
 use Rattle.laws.specs.Sums.{sum_over}
@@ -10,8 +9,5 @@ use Rattle.block.proofs.band.Given as goal
 
 abbrev pub invariant-loop-i : goal.invariant-loop-i
 invariant-loop-i l =
-    (l.i ≤ l.rows) × (length l.counters ≡ 512) × (length l.row ≡ l.grid.width)
+    (length l.counters ≡ 512)
     × Added l.initial.counters l.counters (λ b. sum_over l.i (λ k. band_row l.plane (grid_shape l.grid) l.store l.first l.top k b)) (blocks_across l.grid.width)
-
-abbrev pub decreases-loop-i : goal.decreases-loop-i
-decreases-loop-i l = l.rows - l.i

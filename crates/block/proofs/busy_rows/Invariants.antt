@@ -1,7 +1,4 @@
 -- The loop keeps `Summed` of the bands passed.
-use Prim.Native.Nat.{◌-◌}
-use mathlib.Core.Path.{◌≡◌}
-use lib.ListN.{length}
 use Rattle.laws.proofs.Sums.{Summed}
 use Rattle.plane.specs.Plane.{grid_shape}
 use Rattle.block.specs.Block.{bands_down}
@@ -10,7 +7,4 @@ use Rattle.block.proofs.busy_rows.Given as goal
 
 abbrev pub invariant-loop-k : goal.invariant-loop-k
 invariant-loop-k l =
-    Summed 512 (busy_band l.plane (grid_shape l.grid) l.store l.first l.rows) (bands_down l.rows) l.busy l.k × (length l.row ≡ l.grid.width)
-
-abbrev pub decreases-loop-k : goal.decreases-loop-k
-decreases-loop-k l = l.n - l.k
+    Summed 512 (busy_band l.plane (grid_shape l.grid) l.store l.first l.rows) (bands_down l.rows) l.busy l.k

@@ -1,5 +1,4 @@
 -- The loop keeps `Stacked` of the rows passed.
-use Prim.Native.Nat.{◌-◌}
 use Rattle.laws.specs.Rows.{listed}
 use Rattle.laws.proofs.Lists.{Stacked}
 use Rattle.plane.specs.Plane.{grid_shape}
@@ -9,6 +8,3 @@ use Rattle.block.proofs.keep_rows.Given as goal
 abbrev pub invariant-loop-y : goal.invariant-loop-y
 invariant-loop-y l =
     Stacked (λ y. listed l.grid.width (λ x. kept_of l.plane (grid_shape l.grid) x y)) l.grid.width l.grid.height l.initial.store l.store l.y
-
-abbrev pub decreases-loop-y : goal.decreases-loop-y
-decreases-loop-y l = l.grid.height - l.y

@@ -1,5 +1,4 @@
-use mathlib.Core.Path.{◌≡◌}
-use native.Mathlib.Omega.{arith}
+use mathlib.Core.Path.{sym}
 use Rattle.plane.specs.Plane.{grid_shape}
 use Rattle.telecine.proofs.Calls.{count_done, picture_left}
 use Rattle.telecine.proofs.Detector.push.Goals as goal
@@ -7,14 +6,12 @@ use Rattle.telecine.proofs.Detector.push.Goals as goal
 pub seen_picture-seen-requires : goal.seen_picture-seen-requires
 seen_picture-seen-requires c =
     let a = c.args in
-    let passed : c.picture_no-no.result ≡ 0 = omega arith in
-    count_done a.self a.store.now a.plane.now (grid_shape a.grid) a.first c.picture_no-no.ensures passed
+    count_done a.self a.store.now a.plane.now (grid_shape a.grid) a.first (sym c.in_default.ensures)
 
 pub returns : goal.returns
 returns c =
     let a = c.args in
-    let passed : c.picture_no-no.result ≡ 0 = omega arith in
     let e = c.step-stepped.ensures in
-    let p = picture_left a.self a.store.now a.plane.now (grid_shape a.grid) a.first c.picture_no-no.ensures passed
+    let p = picture_left a.self a.store.now a.plane.now (grid_shape a.grid) a.first (sym c.in_default.ensures)
     c.seen_picture-seen.ensures e.course_after e.last_value e.answer_value e.answer_value_2 c.keep.ensures.value c.keep.ensures.store_after in
-    record { detector_value = p.0; answer_value = p.1.0; answer_value_2 = p.1.1.0; store_after = p.1.1.1 }
+    record { detector_value = p.0; answer_value = p.1; answer_value_2 = p.2; store_after = p.3 }

@@ -1,4 +1,0 @@
-use Rattle.telecine.proofs.Detector.new.Goals as goal
-
-pub returns : goal.returns
-returns c = simp c.new-lock.ensures

@@ -1,4 +1,0 @@
-use Rattle.telecine.proofs.can_compare.Goals as goal
-
-pub returns : goal.returns
-returns c = cc
