@@ -142,6 +142,7 @@ fn write_codes(out: &mut [u8], entries: &[u8], n: usize)
 }
 
 // The cadences of n entries that were judged. What lies behind them in the output stays.
+#[tactic(auto, using(crate::proofs::Entries::none_refused, crate::proofs::Entries::all_written))]
 fn write_cadences(out: &mut [u8], entries: &[u8], n: usize) -> Result<(), Refusal>
     requires { EntriesReady n (length entries.now) (length out.old) }
     ensures done { no_of result ≡ 0 }
