@@ -267,9 +267,9 @@ fn counts_of(plane: &[u8], grid: Grid, store: &[u8], first: usize) -> Counts
     let mut row = [0u8; 8192];
     let width = usize::from(grid.width);
     let rows = rows_of(grid.height, first);
-    let busy = busy_rows(&mut row[0..width], plane, grid, store, first, rows);
+    let found = busy_rows(&mut row[0..width], plane, grid, store, first, rows);
     Counts {
-        busy,
+        busy: found,
         total: total_of(grid.width, rows),
     }
 }
@@ -298,9 +298,9 @@ fn countable(grid: Grid, bytes: usize, room: usize) -> Result<(), Refusal>
 fn keepable(grid: Grid, bytes: usize, room: usize) -> Result<(), Refusal>
     ensures { no_of result ≡ keep_no (grid_shape grid) bytes room }
 {
-    let shape = Shape::from(grid);
-    Refusal::Shape.unless(shape.is_good())?;
-    Refusal::ShortInput.unless(shape.bytes() <= bytes)?;
+    let frame = Shape::from(grid);
+    Refusal::Shape.unless(frame.is_good())?;
+    Refusal::ShortInput.unless(frame.bytes() <= bytes)?;
     Refusal::ShortOutput.unless(frame_bytes(grid) <= room)
 }
 

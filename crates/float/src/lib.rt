@@ -16,6 +16,8 @@ pub fn abs(x: f32) -> f32
     if 0.0 < x { x } else { 0.0 - x }
 }
 
+// Not the library's `min`, which leaves open which of two zeros it gives (`IsFloatMin`): `min_of` settles it. So it is
+// of `max`.
 pub fn min(a: f32, b: f32) -> f32
     ensures { result ≡ min_of a b }
 {
@@ -28,6 +30,7 @@ pub fn max(a: f32, b: f32) -> f32
     if (a < b) | (a != a) { b } else { a }
 }
 
+// Not the library's `clamp`, which requires that `low` is not above `high` and neither is a NaN.
 pub fn clamp(x: f32, low: f32, high: f32) -> f32
     ensures { result ≡ clamp_of x low high }
 {

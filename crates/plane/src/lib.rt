@@ -82,14 +82,20 @@ impl Layout {
     pub fn is_biplanar(self) -> bool
         ensures { result ≡ biplanar self }
     {
-        self != Layout::Planar
+        match self {
+            Layout::Planar => false,
+            Layout::Luma | Layout::First | Layout::Second => true,
+        }
     }
 
     // A row with samples of one component only can be read from end to end.
     pub fn is_alone(self) -> bool
         ensures { result ≡ alone self }
     {
-        matches!(self, Layout::Planar | Layout::Luma)
+        match self {
+            Layout::Planar | Layout::Luma => true,
+            Layout::First | Layout::Second => false,
+        }
     }
 
     pub fn shift(self, depth: u8) -> u8
@@ -153,11 +159,8 @@ impl Shape {
     pub fn bytes(self) -> usize
         ensures { result ≡ plane_bytes self }
     {
-        rows(
-            u32::from(self.height.saturating_sub(1)),
-            self.stride,
-            row_bytes(u32::from(self.width), u32::from(self.depth), self.layout),
-        )
+        let row = row_bytes(u32::from(self.width), u32::from(self.depth), self.layout);
+        rows(u32::from(self.height.saturating_sub(1)), self.stride, row)
     }
 
     pub fn agrees(self, other: Shape) -> bool
@@ -354,7 +357,7 @@ pub fn at(plane: &[u8], s: Shape, x: i32, y: i32) -> Result<f32, Refusal>
 pub fn half_of(n: u16) -> u16
     ensures { result ≡ half n }
 {
-    n.div_ceil(2)
+    ((u32::from(n) + 1) / 2) as u16
 }
 
 impl Planes {

@@ -1,14 +1,15 @@
 -- The claims of specs/Claims.antt.
 use Prim.Native.Nat.{ℕ, ◌<◌}
 use mathlib.Core.Path.{◌≡◌, refl, sym, ap, ◌∙◌}
-use mathlib.Core.Bool.{cond}
+use mathlib.Core.Bool.{cond, true≢false}
 use mathlib.Core.List.{List, [], ◌∷◌, nil≢cons, cons≢nil}
+use native.Mathlib.Omega.{arith}
 use lib.Dec.{lit<, eqb}
-use Rattle.std.proofs.Common.{Result, Ok, Err}
+use Rattle.std.proofs.Common.{Ok, Err}
 use Rattle.refusal.specs.declared.Refusal.{Refusal}
 use Rattle.refusal.specs.declared.Refusal.TheVariants as refusal
-use Rattle.refusal.specs.Refusal.{number_of, no_of, values_of}
-use Rattle.refusal.specs.Claims.{NumbersTell, OneAnswered}
+use Rattle.refusal.specs.Refusal.{number_of}
+use Rattle.refusal.specs.Claims.{NumbersTell, OneAnswered, OneDone, OneTested}
 
 -- the refusal of a number, so that equal numbers are of equal refusals
 named : ℕ → Refusal
@@ -65,3 +66,15 @@ one_answered A (Ok v) (Ok w) p q = ap (λ (l : List A). Ok (first v l)) q
 one_answered A (Ok v) (Err r) p q = absurd (cons≢nil q)
 one_answered A (Err r) (Ok w) p q = absurd (nil≢cons q)
 one_answered A (Err r) (Err s) p q = ap Err (told r s p)
+
+pub one_done : OneDone
+one_done (Ok v) (Ok w) p = refl
+one_done (Ok v) (Err r) p = absurd (let q = positive r in omega (arith, p, q))
+one_done (Err r) (Ok w) p = absurd (let q = positive r in omega (arith, p, q))
+one_done (Err r) (Err s) p = ap Err (told r s p)
+
+pub one_tested : OneTested
+one_tested t r (Ok v) (Ok w) p q = refl
+one_tested t r (Ok v) (Err s) p q = absurd (true≢false (sym p ∙ q.0))
+one_tested t r (Err s) (Ok w) p q = absurd (true≢false (sym q ∙ p.0))
+one_tested t r (Err a) (Err b) p q = ap Err (p.1 ∙ sym q.1)

@@ -239,8 +239,8 @@ impl Detector {
                     ring,
                     course: stepped.course,
                 },
+                kept: self.kept,
                 last: stepped.last,
-                ..self
             },
             answer: stepped.answer,
         }
@@ -263,24 +263,25 @@ impl Detector {
         }
         let seen = seen_picture(self.kept, store, plane, grid, first);
         let mut ring = self.lock.ring;
-        let stepped = step(&mut ring, self.lock.course, self.last, first, seen);
+        let Stepped {
+            course,
+            last,
+            answer,
+        } = step(&mut ring, self.lock.course, self.last, first, seen);
         // A picture that was taken can be kept.
         let _ = block::keep(store, plane, grid);
         Pushed {
             detector: Detector {
-                lock: Lock {
-                    ring,
-                    course: stepped.course,
-                },
+                lock: Lock { ring, course },
                 kept: Kept {
                     held: true,
                     width: grid.width,
                     height: grid.height,
                     first,
                 },
-                last: stepped.last,
+                last,
             },
-            answer: stepped.answer,
+            answer,
         }
     }
 }

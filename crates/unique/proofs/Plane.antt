@@ -1,30 +1,28 @@
 -- Nothing else would satisfy a contract of `plane`.
 use mathlib.Core.Path.{refl}
-use Rattle.plane.proofs.Claims.{one_coded, one_sampled}
-use Rattle.plane.proofs.components_of.Kinds as components_of_kinds
-use Rattle.plane.proofs.components_of.Reads as components_of
-use Rattle.plane.proofs.component_of.Kinds as component_of_kinds
-use Rattle.plane.proofs.component_of.Reads as component_of
-use Rattle.plane.proofs.is_biplanar.Kinds as is_biplanar_kinds
-use Rattle.plane.proofs.is_biplanar.Reads as is_biplanar
-use Rattle.plane.proofs.is_alone.Kinds as is_alone_kinds
-use Rattle.plane.proofs.is_alone.Reads as is_alone
+use Rattle.refusal.proofs.Claims.{one_answered}
+use Rattle.plane.proofs.Layout.components.Kinds as components_kinds
+use Rattle.plane.proofs.Layout.components.Reads as components
+use Rattle.plane.proofs.Layout.component.Kinds as component_kinds
+use Rattle.plane.proofs.Layout.component.Reads as component
+use Rattle.plane.proofs.Layout.is_biplanar.Kinds as is_biplanar_kinds
+use Rattle.plane.proofs.Layout.is_biplanar.Reads as is_biplanar
+use Rattle.plane.proofs.Layout.is_alone.Kinds as is_alone_kinds
+use Rattle.plane.proofs.Layout.is_alone.Reads as is_alone
 use Rattle.plane.proofs.sample_bytes.Kinds as sample_bytes_kinds
 use Rattle.plane.proofs.sample_bytes.Reads as sample_bytes
 use Rattle.plane.proofs.within.Kinds as within_kinds
 use Rattle.plane.proofs.within.Reads as within
-use Rattle.plane.proofs.good_shape.Kinds as good_shape_kinds
-use Rattle.plane.proofs.good_shape.Reads as good_shape
-use Rattle.plane.proofs.shape_of.Kinds as shape_of_kinds
-use Rattle.plane.proofs.shape_of.Reads as shape_of
-use Rattle.plane.proofs.plane_bytes.Kinds as plane_bytes_kinds
-use Rattle.plane.proofs.plane_bytes.Reads as plane_bytes
-use Rattle.plane.proofs.shift_of.Kinds as shift_of_kinds
-use Rattle.plane.proofs.shift_of.Reads as shift_of
+use Rattle.plane.proofs.Shape.is_good.Kinds as is_good_kinds
+use Rattle.plane.proofs.Shape.is_good.Reads as is_good
+use Rattle.plane.proofs.ShapeFromGrid.from.Kinds as from_kinds
+use Rattle.plane.proofs.ShapeFromGrid.from.Reads as from
+use Rattle.plane.proofs.Shape.bytes.Kinds as bytes_kinds
+use Rattle.plane.proofs.Shape.bytes.Reads as bytes
+use Rattle.plane.proofs.Layout.shift.Kinds as shift_kinds
+use Rattle.plane.proofs.Layout.shift.Reads as shift
 use Rattle.plane.proofs.full_code.Kinds as full_code_kinds
 use Rattle.plane.proofs.full_code.Reads as full_code
-use Rattle.plane.proofs.cut.Kinds as cut_kinds
-use Rattle.plane.proofs.cut.Reads as cut
 use Rattle.plane.proofs.code_at.Kinds as code_at_kinds
 use Rattle.plane.proofs.code_at.Reads as code_at
 use Rattle.plane.proofs.value_at.Kinds as value_at_kinds
@@ -39,12 +37,12 @@ use Rattle.plane.proofs.code.Kinds as code_kinds
 use Rattle.plane.proofs.code.Reads as code
 use Rattle.plane.proofs.at.Kinds as at_kinds
 use Rattle.plane.proofs.at.Reads as at
-use Rattle.plane.proofs.planes_agree.Kinds as planes_agree_kinds
-use Rattle.plane.proofs.planes_agree.Reads as planes_agree
+use Rattle.plane.proofs.Shape.agrees.Kinds as agrees_kinds
+use Rattle.plane.proofs.Shape.agrees.Reads as agrees
 use Rattle.plane.proofs.half_of.Kinds as half_of_kinds
 use Rattle.plane.proofs.half_of.Reads as half_of
-use Rattle.plane.proofs.chroma_agrees.Kinds as chroma_agrees_kinds
-use Rattle.plane.proofs.chroma_agrees.Reads as chroma_agrees
+use Rattle.plane.proofs.Shape.chroma_agrees.Kinds as chroma_agrees_kinds
+use Rattle.plane.proofs.Shape.chroma_agrees.Reads as chroma_agrees
 use Rattle.plane.proofs.Planes.planar.Kinds as planar_kinds
 use Rattle.plane.proofs.Planes.planar.Reads as planar
 use Rattle.plane.proofs.Planes.biplanar.Kinds as biplanar_kinds
@@ -52,11 +50,11 @@ use Rattle.plane.proofs.Planes.biplanar.Reads as biplanar
 use Rattle.unique.specs.Unique.{OneAnswer}
 use Rattle.unique.proofs.Law.{same}
 
-pub components_of_once : OneAnswer 0 components_of_kinds.ps components_of_kinds.r components_of.Post
-components_of_once κs a x y u v p q = (same p.0 q.0, refl)
+pub components_once : OneAnswer 0 components_kinds.ps components_kinds.r components.Post
+components_once κs a x y u v p q = (same p.0 q.0, refl)
 
-pub component_of_once : OneAnswer 0 component_of_kinds.ps component_of_kinds.r component_of.Post
-component_of_once κs a x y u v p q = (same p.0 q.0, refl)
+pub component_once : OneAnswer 0 component_kinds.ps component_kinds.r component.Post
+component_once κs a x y u v p q = (same p.0 q.0, refl)
 
 pub is_biplanar_once : OneAnswer 0 is_biplanar_kinds.ps is_biplanar_kinds.r is_biplanar.Post
 is_biplanar_once κs a x y u v p q = (same p q, refl)
@@ -70,23 +68,20 @@ sample_bytes_once κs a x y u v p q = (same p.0 q.0, refl)
 pub within_once : OneAnswer 0 within_kinds.ps within_kinds.r within.Post
 within_once κs a x y u v p q = (same p q, refl)
 
-pub good_shape_once : OneAnswer 0 good_shape_kinds.ps good_shape_kinds.r good_shape.Post
-good_shape_once κs a x y u v p q = (same p q, refl)
+pub is_good_once : OneAnswer 0 is_good_kinds.ps is_good_kinds.r is_good.Post
+is_good_once κs a x y u v p q = (same p q, refl)
 
-pub shape_of_once : OneAnswer 0 shape_of_kinds.ps shape_of_kinds.r shape_of.Post
-shape_of_once κs a x y u v p q = (same p q, refl)
+pub from_once : OneAnswer 0 from_kinds.ps from_kinds.r from.Post
+from_once κs a x y u v p q = (same p q, refl)
 
-pub plane_bytes_once : OneAnswer 0 plane_bytes_kinds.ps plane_bytes_kinds.r plane_bytes.Post
-plane_bytes_once κs a x y u v p q = (same p q, refl)
+pub bytes_once : OneAnswer 0 bytes_kinds.ps bytes_kinds.r bytes.Post
+bytes_once κs a x y u v p q = (same p q, refl)
 
-pub shift_of_once : OneAnswer 0 shift_of_kinds.ps shift_of_kinds.r shift_of.Post
-shift_of_once κs a x y u v p q = (same p.0 q.0, refl)
+pub shift_once : OneAnswer 0 shift_kinds.ps shift_kinds.r shift.Post
+shift_once κs a x y u v p q = (same p.0 q.0, refl)
 
 pub full_code_once : OneAnswer 0 full_code_kinds.ps full_code_kinds.r full_code.Post
 full_code_once κs a x y u v p q = (same p q, refl)
-
-pub cut_once : OneAnswer 0 cut_kinds.ps cut_kinds.r cut.Post
-cut_once κs a x y u v p q = (same p.0 q.0, refl)
 
 pub code_at_once : OneAnswer 1 code_at_kinds.ps code_at_kinds.r code_at.Post
 code_at_once κs a x y u v p q = (same p q, refl)
@@ -104,13 +99,13 @@ pub row_parity_once : OneAnswer 0 row_parity_kinds.ps row_parity_kinds.r row_par
 row_parity_once κs a x y u v p q = (same p q, refl)
 
 pub code_once : OneAnswer 1 code_kinds.ps code_kinds.r code.Post
-code_once κs a x y u v p q = (one_coded x y (same p.0 q.0) (same p.1 q.1), refl)
+code_once κs a x y u v p q = (one_answered _ x y (same p.0 q.0) (same p.1 q.1), refl)
 
 pub at_once : OneAnswer 1 at_kinds.ps at_kinds.r at.Post
-at_once κs a x y u v p q = (one_sampled x y (same p.0 q.0) (same p.1 q.1), refl)
+at_once κs a x y u v p q = (one_answered _ x y (same p.0 q.0) (same p.1 q.1), refl)
 
-pub planes_agree_once : OneAnswer 0 planes_agree_kinds.ps planes_agree_kinds.r planes_agree.Post
-planes_agree_once κs a x y u v p q = (same p q, refl)
+pub agrees_once : OneAnswer 0 agrees_kinds.ps agrees_kinds.r agrees.Post
+agrees_once κs a x y u v p q = (same p q, refl)
 
 pub half_of_once : OneAnswer 0 half_of_kinds.ps half_of_kinds.r half_of.Post
 half_of_once κs a x y u v p q = (same p q, refl)

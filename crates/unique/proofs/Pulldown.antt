@@ -1,6 +1,6 @@
 -- Nothing else would satisfy a contract of `pulldown`.
 use mathlib.Core.Path.{refl}
-use Rattle.pulldown.proofs.Claims.{answer_settled}
+use Rattle.refusal.proofs.Claims.{one_answered, one_done}
 use Rattle.pulldown.proofs.classify_counts.Kinds as classify_counts_kinds
 use Rattle.pulldown.proofs.classify_counts.Reads as classify_counts
 use Rattle.pulldown.proofs.push_apart.Kinds as push_apart_kinds
@@ -31,7 +31,7 @@ push_apart_once =
     (λ κs a x y s t p q.
     λ i. record {
       course = (same p.0 q.0 i).course;
-      answer = answer_settled x.answer y.answer (same p.1.0 q.1.0) (same p.1.1 q.1.1) i;
+      answer = one_answered _ x.answer y.answer (same p.1.0 q.1.0) (same p.1.1 q.1.1) i;
     })
     (λ κs a x u v p q. (λ i. (same p.0 q.0 i).ring) and refl)
 
@@ -46,15 +46,15 @@ locked_once κs a x y u v p q = (same p q, refl)
 
 pub push_once : OneAnswer 0 push_kinds.ps push_kinds.r push.Post
 push_once κs a x y u v p q =
-    (λ i. record { lock = same p.0 q.0 i; answer = answer_settled x.answer y.answer (same p.1 q.1) (same p.2 q.2) i }, refl)
+    (λ i. record { lock = same p.0 q.0 i; answer = one_answered _ x.answer y.answer (same p.1 q.1) (same p.2 q.2) i }, refl)
 
 pub predict_once : OneAnswer 0 predict_kinds.ps predict_kinds.r predict.Post
-predict_once κs a x y u v p q = (answer_settled x y (same p.0 q.0) (same p.1 q.1), refl)
+predict_once κs a x y u v p q = (one_answered _ x y (same p.0 q.0) (same p.1 q.1), refl)
 
 pub seen_code_once : OneAnswer 0 seen_code_kinds.ps seen_code_kinds.r seen_code.Post
 seen_code_once κs a x y u v p q = (same p q, refl)
 
 pub cadences_of_once : OneAnswer 1 cadences_of_kinds.ps cadences_of_kinds.r cadences_of.Post
 cadences_of_once =
-    once 1 cadences_of_kinds.ps cadences_of_kinds.r cadences_of.Post (λ κs a x y s t p q. same p.0 q.0)
+    once 1 cadences_of_kinds.ps cadences_of_kinds.r cadences_of.Post (λ κs a x y s t p q. one_done x y (same p.0 q.0))
     (λ κs a x u v p q. same p.1 q.1 and refl)

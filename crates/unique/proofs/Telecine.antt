@@ -1,6 +1,6 @@
 -- Nothing else would satisfy a contract of `telecine`.
 use mathlib.Core.Path.{refl}
-use Rattle.pulldown.proofs.Claims.{answer_settled}
+use Rattle.refusal.proofs.Claims.{one_answered}
 use Rattle.telecine.proofs.Claims.{pushed_settled}
 use Rattle.telecine.proofs.Detector.new.Kinds as new_kinds
 use Rattle.telecine.proofs.Detector.new.Reads as new
@@ -31,7 +31,7 @@ pub locked_once : OneAnswer 0 locked_kinds.ps locked_kinds.r locked.Post
 locked_once κs a x y u v p q = (same p q, refl)
 
 pub predict_once : OneAnswer 0 predict_kinds.ps predict_kinds.r predict.Post
-predict_once κs a x y u v p q = (answer_settled x y (same p.0 q.0) (same p.1 q.1), refl)
+predict_once κs a x y u v p q = (one_answered _ x y (same p.0 q.0) (same p.1 q.1), refl)
 
 pub push_measured_once : OneAnswer 0 push_measured_kinds.ps push_measured_kinds.r push_measured.Post
 push_measured_once κs a x y u v p q = (pushed_settled x y (same p.0 q.0) (same p.1.0 q.1.0) (same p.1.1 q.1.1), refl)
@@ -49,7 +49,7 @@ step_once =
     λ i. record {
       course = (same p.0 q.0 i).course;
       last = same p.1.0 q.1.0 i;
-      answer = answer_settled x.answer y.answer (same p.1.1.0 q.1.1.0) (same p.1.1.1 q.1.1.1) i;
+      answer = one_answered _ x.answer y.answer (same p.1.1.0 q.1.1.0) (same p.1.1.1 q.1.1.1) i;
     })
     (λ κs a x u v p q. (λ i. (same p.0 q.0 i).ring) and refl)
 

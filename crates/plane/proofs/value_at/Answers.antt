@@ -16,14 +16,6 @@ use Rattle.plane.proofs.value_at.Goals as goal
 in_unit : (bytes : List ℕ) (s : Shape) (x y : ℤ) {r : Float} → r ≡ value_of bytes s x y → (r ≡ value_of bytes s x y) × Unit r
 in_unit bytes s x y e = (e, subst Unit (sym e) (value_in_unit bytes s x y))
 
-pub int_to_float-result : goal.int_to_float-result
-unfolding in_float
-int_to_float-result c = le→leb c.code_wide.result (2 ^ 24) (omega arith)
-
-pub int_to_float-result-2 : goal.int_to_float-result-2
-unfolding in_float
-int_to_float-result-2 c = le→leb c.full_by-full.result (2 ^ 24) (omega arith)
-
 pub returns : goal.returns
 unfolding value_of
 returns c =

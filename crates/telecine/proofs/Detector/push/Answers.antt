@@ -11,7 +11,7 @@ seen_picture-seen-requires c =
 pub returns : goal.returns
 returns c =
     let a = c.args in
-    let e = c.step-stepped.ensures in
+    let e = c.step-last.ensures in
     let p = picture_left a.self a.store.now a.plane.now (grid_shape a.grid) a.first (sym c.in_default.ensures)
     c.seen_picture-seen.ensures e.course_after e.last_value e.answer_value e.answer_value_2 c.keep.ensures.value c.keep.ensures.store_after in
     record { detector_value = p.0; answer_value = p.1; answer_value_2 = p.2; store_after = p.3 }

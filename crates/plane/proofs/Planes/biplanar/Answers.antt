@@ -1,4 +1,0 @@
-use Rattle.plane.proofs.Planes.biplanar.Goals as goal
-
-pub returns : goal.returns
-returns c = cc
