@@ -1,4 +1,3 @@
 -- Laws that the proofs of this crate share.
 pub mod Parts
-pub mod Floats
 pub mod Every

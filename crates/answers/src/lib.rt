@@ -7,11 +7,13 @@
 
 pub mod lent;
 
-ghost use Rattle.std.specs.Prelude.{◌≡◌, ◌%◌, ◌^◌, min, eqb, length};
+ghost use Rattle.std.specs.Prelude.{◌≡◌, ◌%◌, ◌^◌, ◌≤◌, min, true, false, eqb, length, MatchOption};
 ghost use Rattle.std.specs.Float.{binary32};
 ghost use Rattle.std.specs.Float.Ieee.{of_bits};
 ghost use Rattle.answers.specs.Record.{number_of, signed_of, bytes_of, place_of, inside_of, whole_of};
 ghost use Rattle.answers.specs.Floats.{same_float, same_floats};
+
+use std::num::f32_from_bits_with_nan;
 
 // ---- numbers
 
@@ -19,7 +21,7 @@ ghost use Rattle.answers.specs.Floats.{same_float, same_floats};
 pub fn number(answer: &[u8], k: u8) -> u64
     ensures { result ≡ number_of answer.now k }
 {
-    packed::number_at(answer, 4 + (k as u16))
+    packed::number_at(answer, 4 + u16::from(k))
 }
 
 // Number k, cut to so many bits.
@@ -62,13 +64,13 @@ pub fn same(answer: &[u8], k: u8, came: u64) -> bool
 pub fn same_byte(answer: &[u8], k: u8, came: u8) -> bool
     ensures { result ≡ eqb came (number_of answer.now k) }
 {
-    same_word(answer, k, came as u32)
+    same_word(answer, k, u32::from(came))
 }
 
 pub fn same_word(answer: &[u8], k: u8, came: u32) -> bool
     ensures { result ≡ eqb came (number_of answer.now k) }
 {
-    same(answer, k, came as u64)
+    same(answer, k, u64::from(came))
 }
 
 // ---- floats
@@ -77,12 +79,7 @@ pub fn same_word(answer: &[u8], k: u8, came: u32) -> bool
 pub fn float_of(bits: u32) -> f32
     ensures { result ≡ of_bits binary32 bits }
 {
-    if 2139095040 < bits % 2147483648 {
-        let zero = 0.0;
-        zero / zero
-    } else {
-        f32::from_bits(bits)
-    }
+    f32_from_bits_with_nan(bits)
 }
 
 // Number k as a float, by its bits.
@@ -92,21 +89,12 @@ pub fn float(answer: &[u8], k: u8) -> f32
     float_of(word(answer, k))
 }
 
-fn wide(bits: u32) -> u64
-    ensures { result ≡ bits }
-{
-    bits as u64
-}
-
 // Whether a float has these bits; a NaN has none.
+#[tactic(auto, unfolding(crate::specs::Floats::same_float))]
 pub fn same_float(x: f32, bits: u64) -> bool
     ensures { result ≡ same_float x bits }
 {
-    if x == x {
-        wide(f32::to_bits(x)) == bits
-    } else {
-        false
-    }
+    !x.is_nan() && u64::from(x.to_bits()) == bits
 }
 
 // Whether floats, at most 4,096, have the bits that the bytes hold, a number for each.
@@ -117,46 +105,40 @@ pub fn same_floats(floats: &[f32], bytes: &[u8]) -> bool
         return false;
     }
     let mut same = true;
-    let mut i: usize = 0;
-    while i < floats.len() {
-        same = same & same_float(floats[i], packed::number_at(bytes, i as u16));
-        i += 1;
+    for (i, x) in floats.iter().enumerate() {
+        same &= same_float(*x, packed::number_at(bytes, i as u16));
     }
     (8 * floats.len() == bytes.len()) & same
 }
 
 // ---- slices
 
-// Whether slice j of a record of so many numbers lies within it.
-fn inside(answer: &[u8], numbers: u8, j: u8) -> bool
-    ensures { result ≡ inside_of answer.now numbers j }
+// Slice j of a record of so many numbers, where it lies within it.
+fn slice_at<'a>(answer: &'a [u8], numbers: u8, j: u8) -> Option<&'a [u8]>
+    ensures { MatchOption result (inside_of answer.now numbers j ≡ false) (λ found. (inside_of answer.now numbers j ≡ true) × (found.now ≡ bytes_of answer.now numbers j) × (found.ref_ptr ≡ place_of answer.entry.ref_ptr answer.now numbers j)) }
 {
-    let place = 4 + (numbers as u16) + 2 * (j as u16);
+    let place = 4 + u16::from(numbers) + 2 * u16::from(j);
     let from = packed::number_at(answer, place);
     let n = packed::number_at(answer, place + 1);
     let all = answer.len() as u64;
-    if from <= all { n <= all - from } else { false }
+    if from <= all && n <= all - from {
+        let start = from as usize;
+        let end = start + (n as usize);
+        Some(&answer[start..end])
+    } else {
+        None
+    }
 }
 
 // Slice j of a record of so many numbers; nothing, where it does not lie within it.
+#[tactic(auto, unfolding(crate::specs::Record::bytes_of, crate::specs::Record::place_of))]
 pub fn bytes<'a>(answer: &'a [u8], numbers: u8, j: u8) -> &'a [u8]
     ensures result_value { result.now ≡ bytes_of answer.now numbers j }
     ensures ref_ptr_value { result.ref_ptr ≡ place_of answer.entry.ref_ptr answer.now numbers j }
 {
-    let place = 4 + (numbers as u16) + 2 * (j as u16);
-    let from = packed::number_at(answer, place);
-    let n = packed::number_at(answer, place + 1);
-    let all = answer.len() as u64;
-    if from <= all {
-        if n <= all - from {
-            let start = from as usize;
-            let end = start + (n as usize);
-            &answer[start..end]
-        } else {
-            &answer[0..0]
-        }
-    } else {
-        &answer[0..0]
+    match slice_at(answer, numbers, j) {
+        Some(found) => found,
+        None => &answer[..0],
     }
 }
 
@@ -164,13 +146,11 @@ pub fn bytes<'a>(answer: &'a [u8], numbers: u8, j: u8) -> &'a [u8]
 pub fn whole(answer: &[u8], numbers: u8, slices: u8) -> bool
     ensures { result ≡ whole_of answer.now numbers slices }
 {
-    let counted = (packed::number_at(answer, 2) == numbers as u64)
-        & (packed::number_at(answer, 3) == slices as u64);
+    let counted = (packed::number_at(answer, 2) == u64::from(numbers))
+        & (packed::number_at(answer, 3) == u64::from(slices));
     let mut all = true;
-    let mut j: u8 = 0;
-    while j < slices {
-        all = all & inside(answer, numbers, j);
-        j += 1;
+    for j in 0..slices {
+        all &= slice_at(answer, numbers, j).is_some();
     }
     counted & all
 }
@@ -179,6 +159,5 @@ pub fn whole(answer: &[u8], numbers: u8, slices: u8) -> bool
 pub fn room(expected: &[u8], most: usize) -> usize
     ensures { result ≡ min (length expected.now) most }
 {
-    let n = expected.len();
-    if n < most { n } else { most }
+    expected.len().min(most)
 }

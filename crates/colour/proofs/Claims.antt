@@ -4,22 +4,15 @@ use lib.Ieee.{add, mul, lt, to_unsigned, of_bits}
 use Rattle.laws.specs.Refusal.{rising}
 use Rattle.laws.proofs.Claims.{lowest_says}
 use Rattle.float.specs.Float.{clamp_of}
-use Rattle.colour.specs.declared.Coloured.TheVariants.{Value, Refused}
 use Rattle.colour.specs.Colour.{quantise_of}
 use Rattle.colour.specs.Answer.{to_rgb_tests}
-use Rattle.colour.specs.Claims.{ToRgbSays, OneColoured, ToRgbInUnit, ConvertedInUnit, QuantiseNan, QuantiseCards}
+use Rattle.colour.specs.Claims.{ToRgbSays, ToRgbInUnit, ConvertedInUnit, QuantiseNan, QuantiseCards}
 use Rattle.colour.proofs.Ranges.{bounded, bounded_samples}
 use Rattle.colour.proofs.InUnit.{in_unit}
 
 pub to_rgb_says : ToRgbSays
 unfolding rising
 to_rgb_says c y cb cr = lowest_says (to_rgb_tests c y cb cr) tt
-
-pub one_coloured : OneColoured
-one_coloured (Value x) (Value y) n v = cc
-one_coloured (Value x) (Refused m) n v = cc
-one_coloured (Refused k) (Value y) n v = cc
-one_coloured (Refused k) (Refused m) n v = cc
 
 pub converted_in_unit : ConvertedInUnit
 converted_in_unit c y cb cr g p q r = in_unit c (bounded c g) q r p

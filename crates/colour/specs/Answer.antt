@@ -3,19 +3,7 @@
 use Rattle.std.specs.Prelude.{ℕ, Bool, ◌&&◌, List, [], ◌∷◌, Float}
 use Rattle.laws.specs.Refusal.{lowest}
 use Rattle.colour.specs.declared.Conversion.{Conversion}
-use Rattle.colour.specs.declared.Rgb.{Rgb}
-use Rattle.colour.specs.declared.Coloured.{Coloured}
-use Rattle.colour.specs.declared.Coloured.TheVariants.{Value, Refused}
 use Rattle.colour.specs.Colour.{good_conversion, good_samples}
-
--- An answer by its cases: a value is number 0 and that value, a refusal its number and no value.
-abbrev pub coloured_no : Coloured → ℕ
-coloured_no (Value rgb) = 0
-coloured_no (Refused n) = n
-
-abbrev pub coloured_values : Coloured → List Rgb
-coloured_values (Value rgb) = rgb ∷ []
-coloured_values (Refused n) = []
 
 abbrev pub to_rgb_tests : Conversion → Float → Float → Float → List (ℕ × Bool)
 to_rgb_tests c y cb cr = (8, good_conversion c && good_samples y cb cr) ∷ []

@@ -7,17 +7,12 @@ use Rattle.float.specs.Float.{one_f}
 use Rattle.float.specs.Bounds.{Small, Unit}
 use Rattle.colour.specs.declared.Conversion.{Conversion}
 use Rattle.colour.specs.declared.Rgb.{Rgb}
-use Rattle.colour.specs.declared.Coloured.{Coloured}
 use Rattle.colour.specs.Colour.{good_conversion, good_samples, converted_of, quantise_of}
-use Rattle.colour.specs.Answer.{coloured_no, coloured_values, to_rgb_tests}
+use Rattle.colour.specs.Answer.{to_rgb_tests}
 
 -- The number is 8 exactly when one of the nine numbers or of the three samples is outside its range or a NaN, and 0 exactly when none is.
 abbrev pub ToRgbSays : Type 0
 ToRgbSays = (c : Conversion) (y cb cr : Float) → Says (to_rgb_tests c y cb cr)
-
--- Answers with equal number and values are equal, so the promise of `to_rgb` settles its answer.
-abbrev pub OneColoured : Type 0
-OneColoured = (a b : Coloured) → coloured_no a ≡ coloured_no b → coloured_values a ≡ coloured_values b → a ≡ b
 
 -- each of the three values lies from 0 to 1, and so is no NaN
 pub record InUnit (rgb : Rgb) : Type 0 where

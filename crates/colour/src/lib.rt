@@ -8,14 +8,17 @@
 
 ghost use Rattle.std.specs.Prelude.{◌≡◌};
 ghost use Rattle.laws.specs.Refusal.{when_done};
+ghost use Rattle.refusal.specs.Refusal.{no_of, values_of};
 ghost use Rattle.colour.specs.Colour.{within_of, good_conversion, good_samples, converted_of, quantise_of, luma_weights};
-ghost use Rattle.colour.specs.Answer.{coloured_no, coloured_values, to_rgb_no};
+ghost use Rattle.colour.specs.Answer.{to_rgb_no};
+
+use refusal::Refusal;
 
 // The nine numbers of a conversion, each within -16 to 16, `kr` and `kb` within 0 to 0.4375. Offsets and
 // gains are of values by the largest code of their depth. `luma_lift`, `chroma_cos` and `chroma_sin` are
 // 0, 1 and 0 where nothing is adjusted.
 #[repr(C)]
-#[derive(Clone, Copy)]
+#[derive(Clone, Copy, Debug, PartialEq)]
 pub struct Conversion {
     pub luma_offset: f32,
     pub luma_gain: f32,
@@ -28,26 +31,21 @@ pub struct Conversion {
     pub chroma_sin: f32,
 }
 
-#[derive(Clone, Copy)]
+#[derive(Clone, Copy, Debug, PartialEq)]
 pub struct Rgb {
     pub red: f32,
     pub green: f32,
     pub blue: f32,
 }
 
-#[derive(Clone, Copy)]
-pub enum Coloured {
-    Value(Rgb),
-    Refused(u8),
-}
-
-#[derive(Clone, Copy)]
+#[derive(Clone, Copy, Debug, PartialEq, Eq)]
 pub enum Primaries {
     Bt709,
     Bt2020,
 }
 
 impl Primaries {
+    #[tactic(auto, unfolding(crate::specs::Colour::luma_weights))]
     pub fn luma(self) -> Rgb
         ensures { result ≡ luma_weights self }
     {
@@ -73,6 +71,7 @@ fn within(x: f32, low: f32, high: f32) -> bool
     (low <= x) & (x <= high)
 }
 
+#[tactic(auto, unfolding(crate::specs::Colour::good_conversion))]
 pub fn good_conversion(c: Conversion) -> bool
     ensures { result ≡ good_conversion c }
 {
@@ -87,6 +86,7 @@ pub fn good_conversion(c: Conversion) -> bool
         & within(c.chroma_sin, -16.0, 16.0)
 }
 
+#[tactic(auto, unfolding(crate::specs::Colour::good_samples))]
 fn good_samples(y: f32, cb: f32, cr: f32) -> bool
     ensures { result ≡ good_samples y cb cr }
 {
@@ -113,18 +113,17 @@ pub fn converted(c: Conversion, y: f32, cb: f32, cr: f32) -> Rgb
     }
 }
 
-pub fn to_rgb(c: Conversion, y: f32, cb: f32, cr: f32) -> Coloured
-    ensures { (coloured_no result ≡ to_rgb_no c y cb cr) × (coloured_values result ≡ when_done (to_rgb_no c y cb cr) (converted_of c y cb cr)) }
+#[tactic(auto, unfolding(laws::specs::Refusal::lowest))]
+pub fn to_rgb(c: Conversion, y: f32, cb: f32, cr: f32) -> Result<Rgb, Refusal>
+    ensures { (no_of result ≡ to_rgb_no c y cb cr) × (values_of result ≡ when_done (to_rgb_no c y cb cr) (converted_of c y cb cr)) }
 {
-    if good_conversion(c) & good_samples(y, cb, cr) {
-        Coloured::Value(converted(c, y, cb, cr))
-    } else {
-        Coloured::Refused(refusal::COLOUR)
-    }
+    Refusal::Colour.unless(good_conversion(c) & good_samples(y, cb, cr))?;
+    Ok(converted(c, y, cb, cr))
 }
 
 // A half is added so that the cut rounds to the nearest byte. The cut stops at 0 and at 255 by itself,
 // so the original's clamp before it would change nothing.
+#[tactic(auto, using(float::proofs::Byte::cut_of_clamp), unfolding(crate::specs::Colour::quantise_of))]
 pub fn quantise(value: f32) -> u8
     ensures { result ≡ quantise_of value }
 {

@@ -6,10 +6,11 @@ use Prim.Native.Nat.{ℕ, zero, suc, ◌+◌, ◌-◌, ◌≤◌, ◌<◌, min}
 use native.Mathlib.Nat.{eq-zero-or-pos, le_refl, lt_trans, lt_of_le_of_lt}
 use native.Mathlib.Omega.{arith}
 use borrow.Author.Tests.{lt-ltb, le-ltb}
-use lib.IntN.{ℤ, pos, sub_ℕ, ◌-ℤ◌}
-use lib.ListN.{length, get_or, take, drop, length-append, length-drop, get_or-append}
-use lib.Seq.{length-take-le, get_or-append-add, get_or-take, get_or-drop}
+use lib.IntN.{ℤ, pos, sub_ℕ, ◌+ℤ◌, ◌-ℤ◌}
+use lib.ListN.{length, get_or, take, drop, replicate, length-append, length-drop, length-replicate, get_or-append}
+use lib.Seq.{ext_get_or, length-take-le, get_or-append-add, get_or-take, get_or-drop}
 use lib.Ieee.{Float, nan}
+use Rattle.std.proofs.lemmas.List.{get_or-replicate}
 use Rattle.laws.specs.Rows.{listed}
 use Rattle.laws.proofs.Lists.{length_listed, listed_at, part_length}
 use Rattle.plane.specs.declared.Shape.{Shape}
@@ -65,6 +66,14 @@ pub lent_listed :
 lent_listed old at to {part} f low high e =
     let same : part ≡ listed (to - at) f = e ∙ ap (λ (n : ℕ). listed n f) (part_length old at (to - at) (omega arith)) in
     (spliced old part at to low high (ap length same ∙ length_listed (to - at) f), same)
+
+-- a part of one value
+pub filled : (n : ℕ) (v : Float) → replicate n v ≡ listed n (λ x. v)
+filled n v =
+    ext_get_or nan (replicate n v) (listed n (λ x. v)) (length-replicate n v ∙ sym (length_listed n (λ x. v)))
+    (λ i h.
+    let inside : i < n = omega (arith, h, length-replicate n v) in
+    get_or-replicate n i v nan inside ∙ sym (listed_at n (λ x. v) i nan inside))
 
 -- what a part holds that was listed
 pub listed_here :
@@ -209,7 +218,7 @@ motion_stays u few m = record {
   coming = trio_stays u few (omega arith) m.coming;
 }
 
--- ---- the rows above and below, as `less` and `down` count them
+-- ---- the rows above and below, as the code counts them
 
 pub held_up : (size y k : ℕ) → y < size → held size (pos y -ℤ pos k) ≡ y - k
 held_up size y zero l = omega arith
@@ -220,3 +229,6 @@ held_up size y (suc k) l = held_difference size y (suc k) ∙ within size y k l
 
 pub held_here : (size y : ℕ) → y < size → held size (pos y) ≡ y
 held_here size y l = omega arith
+
+pub held_down : (size y k : ℕ) → held size (pos y +ℤ pos k) ≡ min (y + k) (size - 1)
+held_down size y k = omega arith

@@ -1,33 +1,21 @@
 -- What a call of `part` that gets 0 has shown: its part is the plane's, its planes are within the bounds, agree and are lent whole, and the output
--- has room. And a whole plane as the part that is everything.
-use mathlib.Core.Path.{◌≡◌, refl}
-use mathlib.Core.Bool.{Bool, true, false, cond, ◌&&◌}
-use mathlib.Core.List.{[], ◌∷◌}
+-- has room.
+use mathlib.Core.Path.{◌≡◌}
+use mathlib.Core.Bool.{true, ◌&&◌}
 use Prim.Native.Nat.{ℕ, ◌+◌, ◌*◌, ◌≤◌}
-use native.Mathlib.Nat.{zero-add}
-use native.Mathlib.Omega.{arith}
-use borrow.Author.Tests.{leb-true, eqb-true, le-leb}
+use borrow.Author.Tests.{leb-true, eqb-true}
 use lib.Dec.{leb, eqb}
 use Rattle.laws.proofs.Bools.{halves}
-use Rattle.laws.specs.Refusal.{lowest, rising}
+use Rattle.laws.specs.Refusal.{rising}
 use Rattle.laws.proofs.Refusal.{AllPass, all_pass}
 use Rattle.plane.specs.declared.Shape.{Shape}
 use Rattle.plane.specs.Plane.{good_shape, plane_bytes, agree}
 use Rattle.plane.proofs.Bounds.{good_within}
 use Rattle.filter.specs.declared.Making.{Making}
-use Rattle.filter.specs.Filter.{Sampler}
 use Rattle.filter.specs.Rows.{good_rows}
 use Rattle.fill.specs.declared.Place.{Place}
-use Rattle.fill.specs.Fill.{lines_of, part_of, part_tests, part_no, plane_no}
+use Rattle.fill.specs.Fill.{part_tests, part_no}
 use Rattle.fill.specs.Lines.{Lent, AllLent}
-
--- five tests, one behind the other
-pub number_is :
-    {first second third fourth fifth : ℕ} {a a' b b' c c' d d' e e' : Bool} →
-    first ≡ cond a second 3 → second ≡ cond b third 4 → third ≡ cond c fourth 5 → fourth ≡ cond d fifth 6 → fifth ≡ cond e 0 7 →
-    a ≡ a' → b ≡ b' → c ≡ c' → d ≡ d' → e ≡ e' → first ≡ lowest ((3, a') ∷ (4, b') ∷ (5, c') ∷ (6, d') ∷ (7, e') ∷ [])
-unfolding lowest
-number_is p q r s t u v w x y = cc
 
 lent : (s : Shape) (bytes : ℕ) → good_shape s ≡ true → leb (plane_bytes s) bytes ≡ true → Lent s bytes
 lent s bytes g b =
@@ -78,25 +66,3 @@ module _ (making : Making) (place : Place) (before cur after room : ℕ) where
           leb-true (place.height * place.width) room all.1.1.1.1.0,
         ),
       )
-
--- ---- a whole plane is the part that is everything
-
-abbrev pub everything : Making → Place
-everything making = record { top = 0; height = making.cur.height; left = 0; width = making.cur.width }
-
-pub whole_number :
-    (making : Making) (before cur after room : ℕ) → part_no making (everything making) before cur after room ≡ plane_no making before cur after room
-unfolding lowest
-whole_number making before cur after room =
-    simp
-    (le-leb (0 + making.cur.height) making.cur.height (omega arith), le-leb (0 + making.cur.width) making.cur.width (omega arith), inside (good_rows making.rows))
-  where
-    inside : (b : Bool) → (b && true && true) ≡ b
-    inside true = refl
-    inside false = refl
-
-pub whole_lines :
-    (making : Making) (before cur after : Sampler) →
-    part_of making.quality making.rows (everything making) before cur after
-    ≡ lines_of making.quality making.rows before cur after making.cur.width making.cur.height
-whole_lines making before cur after = simp zero-add

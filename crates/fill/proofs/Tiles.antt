@@ -1,13 +1,34 @@
 -- A line, made tile after tile: each is a part of it that is lent, and comes back whole.
 use mathlib.Core.Path.{◌≡◌, sym, ◌∙◌, ap}
 use mathlib.Core.List.{List, ◌∷◌, [], ◌++◌, append_assoc, append-nil}
-use Prim.Native.Nat.{ℕ, zero, suc, ◌+◌, ◌-◌, ◌≤◌}
-use native.Mathlib.Nat.{add-zero, add-suc, add_assoc}
+use Prim.Native.Nat.{ℕ, zero, suc, ◌+◌, ◌-◌, ◌*◌, ◌≤◌, ◌<◌, min}
+use native.Mathlib.Nat.{add-zero, add-suc, add_assoc, mul-le-mul}
 use native.Mathlib.Omega.{arith}
 use lib.ListN.{length, take, drop, length-append, length-drop}
 use lib.Seq.{take_at, drop_at, drop-drop}
 use Rattle.laws.specs.Rows.{listed}
+use Rattle.laws.proofs.Rows.{row_within}
 use Rattle.laws.proofs.Lists.{Filled, length_listed, same_listed, part_length}
+use Rattle.plane.specs.declared.Shape.{Shape}
+use Rattle.fill.specs.declared.Place.{Place}
+use Rattle.fill.specs.Lines.{Lent}
+
+-- where a tile ends that starts within the line
+pub tile_ends : {x to long : ℕ} → x < long → to ≡ min (x + 512) long → (x < to) × (to ≤ long) × (to ≤ x + 512)
+tile_ends l e = (omega arith, omega arith, omega arith)
+
+-- where a row of a part stands in what is lent for it
+pub row_ends :
+    (s : Shape) (place : Place) {bytes room y : ℕ} →
+    Lent s bytes →
+    (place.top + place.height ≤ s.height) × (place.left + place.width ≤ s.width) →
+    place.height * place.width ≤ room →
+    y < place.height →
+    (y * place.width ≤ 4352 * 8192) × (y * place.width + place.width ≤ room)
+row_ends s place {bytes} {room} {y} lent within held l =
+    let high : y ≤ 4352 = omega (arith, lent.height_most) in
+    let wide : place.width ≤ 8192 = omega (arith, lent.width_most) in
+    (mul-le-mul high wide, row_within y place.height place.width room l held)
 
 module _ {A : Type 0} where
   listed_more : (f : ℕ → A) (x n : ℕ) → listed x f ++ listed n (λ k. f (x + k)) ≡ listed (x + n) f

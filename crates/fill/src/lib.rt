@@ -1,19 +1,20 @@
 // Copyright 2026 Till0196
 // SPDX-License-Identifier: Apache-2.0
 // Carried over from core/src/output/video/filter.rs (`plane`, `linear`, `cubic`, `motion`, `edge`), and
-// changed: a plane is a lent slice beside its shape, the output is lent, what is out of bounds is refused
-// by number, and samples are made tile by tile, from rows of floats.
+// changed: a plane is a lent slice beside its shape, the output is lent, what is out of bounds is refused,
+// and samples are made tile by tile, from rows of floats.
 //
 // A plane of samples, or a part of one, fast. A line is made in tiles of 512 columns. Each source row that
 // a tile needs is first expanded to floats, with six more columns on each side that hold what the plane's
 // sampler gives there. The loops over a tile then read with neither a clamp nor a test, and are vectorised.
 #![tactic(auto)]
 
-ghost use Rattle.std.specs.Prelude.{◌≡◌, ℕ, ◌+◌, ◌*◌, ◌-◌, ◌/◌, ◌<◌, ◌≤◌, ◌^◌, min, length, ℤ, pos, nat_abs, ◌+ℤ◌};
+ghost use Rattle.std.specs.Prelude.{◌≡◌, ℕ, ◌+◌, ◌*◌, ◌<◌, ◌≤◌, ◌^◌, ◌&&◌, leb, length, ℤ, pos, nat_abs, ◌+ℤ◌};
 ghost use Rattle.std.proofs.Math.IntN.{sub_ℕ};
 ghost use Rattle.std.specs.Float.{binary32};
 ghost use Rattle.std.specs.Float.Ieee.{of_int};
 ghost use Rattle.laws.specs.Refusal.{written};
+ghost use Rattle.refusal.specs.Refusal.{no_of};
 ghost use Rattle.laws.specs.Rows.{listed, over};
 ghost use Rattle.plane.specs.Plane.{sample_bytes, stored_at, value_of};
 ghost use Rattle.plane.specs.Coordinates.{held};
@@ -23,8 +24,11 @@ ghost use Rattle.fill.specs.Fill.{part_no, part_made, plane_no, plane_made};
 ghost use Rattle.fill.specs.Rows.{RowOf, Around, Trio, Motion, Under, along_of};
 ghost use Rattle.fill.specs.Lines.{Lent, AllLent, Tiled, stored_value, better_in, Tries, Picks, kept_of, Moving, tile_of, sample_tile};
 
+use filter::Quality;
+use refusal::Refusal;
+
 // The samples of a part of a plane: `width` columns from `left` on, of `height` rows from `top` on.
-#[derive(Clone, Copy)]
+#[derive(Clone, Copy, Debug, PartialEq, Eq)]
 pub struct Place {
     pub top: u16,
     pub height: u16,
@@ -32,13 +36,23 @@ pub struct Place {
     pub width: u16,
 }
 
-// ---- a row of the source
+impl Place {
+    // How many samples there are.
+    fn area(self) -> usize
+        ensures { result ≡ self.height * self.width }
+    {
+        usize::from(self.height) * usize::from(self.width)
+    }
 
-fn wide(byte: u8) -> u16
-    ensures { (result ≡ byte) × (result < 256) }
-{
-    byte as u16
+    fn is_inside(self, s: plane::Shape) -> bool
+        ensures { result ≡ leb (self.top + self.height) s.height && leb (self.left + self.width) s.width }
+    {
+        (usize::from(self.top) + usize::from(self.height) <= usize::from(s.height))
+            & (usize::from(self.left) + usize::from(self.width) <= usize::from(s.width))
+    }
 }
+
+// ---- a row of the source
 
 // The bytes are known to be there, so that no test stands in the loop.
 fn stored(src: &[u8], depth: u8, i: usize) -> u16
@@ -46,23 +60,16 @@ fn stored(src: &[u8], depth: u8, i: usize) -> u16
     ensures { result ≡ stored_at src.now depth i }
 {
     if depth <= 8 {
-        return wide(src[i]);
+        return u16::from(src[i]);
     }
-    wide(src[i]) + 256 * wide(src[i + 1])
-}
-
-fn shifted(word: u16, right: u8) -> u16
-    requires { right ≤ 7 }
-    ensures { result ≡ word / 2 ^ right }
-{
-    word >> right
+    u16::from(src[i]) + 256 * u16::from(src[i + 1])
 }
 
 fn value(src: &[u8], depth: u8, shift: u8, full: u16, i: usize) -> f32
     requires { (i + sample_bytes depth ≤ length src.now) × (shift ≤ 7) }
     ensures { result ≡ stored_value src.now depth shift full i }
 {
-    (plane::cut(shifted(stored(src, depth, i), shift), full) as f32) / (full as f32)
+    ((stored(src, depth, i) >> shift).min(full) as f32) / (full as f32)
 }
 
 // Samples from the column `from` on, `step` bytes from one to the next. Each caller gives step and depth
@@ -82,10 +89,8 @@ fn scan(
     requires by_index { (x : ℕ) → x < length dst.old → at + step * (from + x) + sample_bytes depth ≤ length src.now }
     ensures { dst.new ≡ listed (length dst.old) (λ x. stored_value src.now depth shift full (at + step * (from + x))) }
 {
-    let mut x = 0;
-    while x < dst.len() {
+    for x in 0..dst.len() {
         dst[x] = value(src, depth, shift, full, at + step * (from + x));
-        x += 1;
     }
 }
 
@@ -104,10 +109,9 @@ fn samples(dst: &mut [f32], src: &[u8], s: plane::Shape, row: usize, from: usize
     requires row_lt_height { (row < s.height) × (from + length dst.old ≤ s.width) }
     ensures { dst.new ≡ listed (length dst.old) (λ x. value_of src.now s (pos (from + x)) (pos row)) }
 {
-    let layout = s.layout;
     let at = start(row, s.stride);
-    let component = plane::component_of(layout);
-    let shared = plane::components_of(layout);
+    let component = s.layout.component();
+    let shared = s.layout.components();
     if s.depth <= 8 {
         if shared <= 1 {
             scan(dst, src, at + component, 1, from, 8, 0, 255);
@@ -116,7 +120,7 @@ fn samples(dst: &mut [f32], src: &[u8], s: plane::Shape, row: usize, from: usize
         scan(dst, src, at + component, 2, from, 8, 0, 255);
         return;
     }
-    let shift = plane::shift_of(layout, s.depth);
+    let shift = s.layout.shift(s.depth);
     let full = plane::full_code(s.depth);
     if shared <= 1 {
         scan(dst, src, at + 2 * component, 2, from, 16, shift, full);
@@ -126,29 +130,6 @@ fn samples(dst: &mut [f32], src: &[u8], s: plane::Shape, row: usize, from: usize
 }
 
 // ---- rows of a tile, expanded
-
-fn spread(dst: &mut [f32], value: f32)
-    ensures { dst.new ≡ listed (length dst.old) (λ x. value) }
-{
-    let mut x = 0;
-    while x < dst.len() {
-        dst[x] = value;
-        x += 1;
-    }
-}
-
-fn less(a: usize, b: usize) -> usize
-    ensures { result ≡ a - b }
-{
-    if a < b { 0 } else { a - b }
-}
-
-fn down(y: usize, k: usize, height: usize) -> usize
-    requires { (y < height) × (height ≤ 4352) × (k ≤ 3) }
-    ensures { result ≡ min (y + k) (height - 1) }
-{
-    if y + k < height { y + k } else { height - 1 }
-}
 
 // The columns of a row that a tile needs, into the places from `start` on. The samples within the plane
 // are read, and those past an edge repeat the last within. A sampler holds a coordinate that lies outside
@@ -168,13 +149,13 @@ fn expand(
     ensures under { Under rows.new rows.old start }
 {
     let end = start + (count + 12);
-    let first = start + less(6, from);
-    let last = end - less(from + count + 6, s.width as usize);
-    samples(&mut rows[first..last], src, s, row, less(from, 6));
+    let first = start + 6usize.saturating_sub(from);
+    let last = end - (from + count + 6).saturating_sub(usize::from(s.width));
+    samples(&mut rows[first..last], src, s, row, from.saturating_sub(6));
     let leftmost = rows[first];
     let rightmost = rows[last - 1];
-    spread(&mut rows[start..first], leftmost);
-    spread(&mut rows[last..end], rightmost);
+    rows[start..first].fill(leftmost);
+    rows[last..end].fill(rightmost);
 }
 
 // The rows k above and below. A row above the first is the first, and one below the last is the last.
@@ -193,16 +174,9 @@ fn around(
     ensures around { Around rows.new start from count (pos y) (pos k) (value_of src.now s) }
     ensures under { Under rows.new rows.old start }
 {
-    expand(rows, start, src, s, less(y, k), from, count);
-    expand(
-        rows,
-        start + 524,
-        src,
-        s,
-        down(y, k, s.height as usize),
-        from,
-        count,
-    );
+    let last = usize::from(s.height) - 1;
+    expand(rows, start, src, s, y.saturating_sub(k), from, count);
+    expand(rows, start + 524, src, s, (y + k).min(last), from, count);
 }
 
 fn trio(
@@ -306,6 +280,7 @@ struct Pick {
     far: f32,
 }
 
+#[tactic(auto, unfolding(crate::specs::Lines::better_in))]
 fn better(best: Pick, score: f32, near: f32, far: f32) -> Pick
     ensures { result ≡ better_in best score near far }
 {
@@ -324,37 +299,22 @@ fn tried(rows: &[f32], start: usize, x: usize, best: Pick, t: usize, steep: f32)
     better(best, cost, near(rows, x, t), far(rows, start, x, t))
 }
 
-// Along the best slant, for Yadif. It asks for nothing three rows off, so the rows one off stand in.
-fn edge(rows: &[f32], x: usize) -> Pick
-    requires { (length rows.now ≡ 5240) × (x ≤ 511) }
-    ensures { Picks rows.now 0 x result }
+// Along the best slant. FAR is where the rows three off stand: Yadif asks for nothing there, so the rows one off
+// stand in. A const parameter, since a function this large is inlined only where it has one caller, as each
+// instance has, and only what is inlined is vectorised.
+fn edge<const FAR: usize>(rows: &[f32], x: usize) -> Pick
+    requires { (length rows.now ≡ 5240) × (x ≤ 511) × (FAR ≤ 4192) }
+    ensures { Picks rows.now FAR x result }
 {
     let straight = Pick {
         score: score(rows, x, 2),
         near: near(rows, x, 2),
-        far: far(rows, ABOVE, x, 2),
+        far: far(rows, FAR, x, 2),
     };
-    let left = tried(rows, ABOVE, x, straight, 1, 1.0);
-    let right = tried(rows, ABOVE, x, left, 3, 1.0);
-    let far_left = tried(rows, ABOVE, x, right, 0, 2.0);
-    tried(rows, ABOVE, x, far_left, 4, 2.0)
-}
-
-// The same for Bwdif. It stands twice because a function this large is inlined only where it has one
-// caller, and only what is inlined is vectorised.
-fn edge_far(rows: &[f32], x: usize) -> Pick
-    requires { (length rows.now ≡ 5240) × (x ≤ 511) }
-    ensures { Picks rows.now 4192 x result }
-{
-    let straight = Pick {
-        score: score(rows, x, 2),
-        near: near(rows, x, 2),
-        far: far(rows, FAR_ABOVE, x, 2),
-    };
-    let left = tried(rows, FAR_ABOVE, x, straight, 1, 1.0);
-    let right = tried(rows, FAR_ABOVE, x, left, 3, 1.0);
-    let far_left = tried(rows, FAR_ABOVE, x, right, 0, 2.0);
-    tried(rows, FAR_ABOVE, x, far_left, 4, 2.0)
+    let left = tried(rows, FAR, x, straight, 1, 1.0);
+    let right = tried(rows, FAR, x, left, 3, 1.0);
+    let far_left = tried(rows, FAR, x, right, 0, 2.0);
+    tried(rows, FAR, x, far_left, 4, 2.0)
 }
 
 fn in_motion(rows: &[f32], x: usize, along: f32) -> f32
@@ -383,10 +343,8 @@ fn bob(out: &mut [f32], rows: &mut [f32], src: &[u8], s: plane::Shape, y: usize,
     ensures rows_len { length rows.new ≡ 5240 }
 {
     around(rows, ABOVE, src, s, y, 1, from, out.len());
-    let mut x = 0;
-    while x < out.len() {
+    for x in 0..out.len() {
         out[x] = float::clamp(near(rows, x, 2) * 0.5, 0.0, 1.0);
-        x += 1;
     }
 }
 
@@ -406,11 +364,9 @@ fn yadif(
     ensures rows_len { length rows.new ≡ 5240 }
 {
     motion(rows, making, before, cur, after, y, from, out.len());
-    let mut x = 0;
-    while x < out.len() {
-        let pick = edge(rows, x);
+    for x in 0..out.len() {
+        let pick = edge::<ABOVE>(rows, x);
         out[x] = in_motion(rows, x, pick.near * 0.5);
-        x += 1;
     }
 }
 
@@ -431,23 +387,19 @@ fn bwdif(
 {
     motion(rows, making, before, cur, after, y, from, out.len());
     around(rows, FAR_ABOVE, cur, making.cur, y, 3, from, out.len());
-    let mut x = 0;
-    while x < out.len() {
-        let pick = edge_far(rows, x);
+    for x in 0..out.len() {
+        let pick = edge::<FAR_ABOVE>(rows, x);
         out[x] = in_motion(rows, x, filter::cubic(pick.near, pick.far));
-        x += 1;
     }
 }
 
 // Whether a row is shown as `cur` has it.
-fn kept(quality: filter::Quality, mated: bool, shown: bool) -> bool
+fn kept(quality: Quality, mated: bool, shown: bool) -> bool
     ensures { result ≡ kept_of quality mated shown }
 {
     match quality {
-        filter::Quality::Weave => !mated,
-        filter::Quality::Bob => shown,
-        filter::Quality::Yadif => shown,
-        filter::Quality::Bwdif => shown,
+        Quality::Weave => !mated,
+        Quality::Bob | Quality::Yadif | Quality::Bwdif => shown,
     }
 }
 
@@ -466,32 +418,28 @@ fn tile(
     ensures out_after { out.new ≡ sample_tile making before.now cur.now after.now from (length out.old) y }
     ensures rows_len { length rows.new ≡ 5240 }
 {
-    let quality = making.quality;
     let parity = (y % 2) as u32;
-    let shown = making.rows;
-    if kept(quality, parity == shown.mate, parity == shown.first) {
+    let rows_shown = making.rows;
+    if kept(
+        making.quality,
+        parity == rows_shown.mate,
+        parity == rows_shown.first,
+    ) {
         samples(out, cur, making.cur, y, from);
         return;
     }
-    match quality {
-        filter::Quality::Weave => {
-            samples(out, before, making.before, y, from);
-        }
-        filter::Quality::Bob => {
-            bob(out, rows, cur, making.cur, y, from);
-        }
-        filter::Quality::Yadif => {
-            yadif(out, rows, making, before, cur, after, y, from);
-        }
-        filter::Quality::Bwdif => {
-            bwdif(out, rows, making, before, cur, after, y, from);
-        }
+    match making.quality {
+        Quality::Weave => samples(out, before, making.before, y, from),
+        Quality::Bob => bob(out, rows, cur, making.cur, y, from),
+        Quality::Yadif => yadif(out, rows, making, before, cur, after, y, from),
+        Quality::Bwdif => bwdif(out, rows, making, before, cur, after, y, from),
     }
 }
 
 // ---- a line, a part and the whole plane
 
-// Ten rows of 512 columns stay in the nearest cache.
+// Ten rows of 512 columns stay in the nearest cache. The last tile is shorter. A `while`, since a proof does not
+// know what stands in a slice once its `chunks_mut` are let go.
 fn line(
     out: &mut [f32],
     rows: &mut [f32],
@@ -509,7 +457,7 @@ fn line(
 {
     let mut x = 0;
     while x < out.len() {
-        let to = shorter(x + 512, out.len());
+        let to = (x + 512).min(out.len());
         tile(
             &mut out[x..to],
             rows,
@@ -524,13 +472,8 @@ fn line(
     }
 }
 
-fn shorter(a: usize, b: usize) -> usize
-    ensures { result ≡ min a b }
-{
-    if a < b { a } else { b }
-}
-
 // The rows are made once for all lines, since to clear them costs as much as to make a line.
+#[tactic(auto, using(crate::proofs::Tiles::row_ends))]
 fn lines(
     out: &mut [f32],
     making: filter::Making,
@@ -545,12 +488,8 @@ fn lines(
     ensures { out.new ≡ over (part_made making place before.now cur.now after.now) out.old }
 {
     let mut rows = [0.0f32; 5240];
-    let height = place.height as usize;
-    let width = place.width as usize;
-    let top = place.top as usize;
-    let left = place.left as usize;
-    let mut y = 0;
-    while y < height {
+    let width = usize::from(place.width);
+    for y in 0..usize::from(place.height) {
         let at = y * width;
         let to = at + width;
         line(
@@ -560,17 +499,31 @@ fn lines(
             before,
             cur,
             after,
-            top + y,
-            left,
+            usize::from(place.top) + y,
+            usize::from(place.left),
         );
-        y += 1;
     }
 }
 
-fn area(height: u16, width: u16) -> usize
-    ensures { result ≡ height * width }
+// Whether a part can be made where so many samples are lent. Numbers 3 to 7.
+#[tactic(auto, unfolding(laws::specs::Refusal::lowest))]
+fn judge(
+    making: filter::Making,
+    place: Place,
+    before: &[u8],
+    cur: &[u8],
+    after: &[u8],
+    room: usize,
+) -> Result<(), Refusal>
+    ensures { no_of result ≡ part_no making place (length before.now) (length cur.now) (length after.now) room }
 {
-    (height as usize) * (width as usize)
+    let inside = filter::rows_good(making.rows) & place.is_inside(making.cur);
+    let whole = filter::planes_whole(making, before.len(), cur.len(), after.len());
+    Refusal::Outside.unless(inside)?;
+    Refusal::Shape.unless(filter::planes_good(making))?;
+    Refusal::Differ.unless(filter::planes_alike(making))?;
+    Refusal::ShortInput.unless(whole)?;
+    Refusal::ShortOutput.unless(place.area() <= room)
 }
 
 // The samples of a part, row by row, laid end to end.
@@ -581,50 +534,31 @@ pub fn part(
     cur: &[u8],
     after: &[u8],
     place: Place,
-) -> u8
-    ensures value { result ≡ part_no making place (length before.now) (length cur.now) (length after.now) (length out.old) }
-    ensures out_after { out.new ≡ written result (over (part_made making place before.now cur.now after.now) out.old) out.old }
+) -> Result<(), Refusal>
+    ensures value { no_of result ≡ part_no making place (length before.now) (length cur.now) (length after.now) (length out.old) }
+    ensures out_after { out.new ≡ written (no_of result) (over (part_made making place before.now cur.now after.now) out.old) out.old }
 {
-    let shape = making.cur;
-    let inside = filter::rows_good(making.rows)
-        & ((place.top as usize) + (place.height as usize) <= shape.height as usize)
-        & ((place.left as usize) + (place.width as usize) <= shape.width as usize);
-    let room = area(place.height, place.width) <= out.len();
-    let whole = filter::planes_whole(making, before.len(), cur.len(), after.len());
-    let no = refusal::test(
-        refusal::OUTSIDE,
-        inside,
-        refusal::test(
-            refusal::SHAPE,
-            filter::planes_good(making),
-            refusal::test(
-                refusal::DIFFER,
-                filter::planes_alike(making),
-                refusal::test(
-                    refusal::SHORT_INPUT,
-                    whole,
-                    refusal::test(refusal::SHORT_OUTPUT, room, refusal::DONE),
-                ),
-            ),
-        ),
-    );
-    if no == 0 {
-        lines(out, making, before, cur, after, place);
-    }
-    no
+    judge(making, place, before, cur, after, out.len())?;
+    lines(out, making, before, cur, after, place);
+    Ok(())
 }
 
 // The samples of every row.
-pub fn plane(out: &mut [f32], making: filter::Making, before: &[u8], cur: &[u8], after: &[u8]) -> u8
-    ensures value { result ≡ plane_no making (length before.now) (length cur.now) (length after.now) (length out.old) }
-    ensures out_after { out.new ≡ written result (over (plane_made making before.now cur.now after.now) out.old) out.old }
+pub fn plane(
+    out: &mut [f32],
+    making: filter::Making,
+    before: &[u8],
+    cur: &[u8],
+    after: &[u8],
+) -> Result<(), Refusal>
+    ensures value { no_of result ≡ plane_no making (length before.now) (length cur.now) (length after.now) (length out.old) }
+    ensures out_after { out.new ≡ written (no_of result) (over (plane_made making before.now cur.now after.now) out.old) out.old }
 {
-    let shape = making.cur;
     let everything = Place {
         top: 0,
-        height: shape.height,
+        height: making.cur.height,
         left: 0,
-        width: shape.width,
+        width: making.cur.width,
     };
     part(out, making, before, cur, after, everything)
 }

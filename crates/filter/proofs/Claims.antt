@@ -14,8 +14,8 @@ use Rattle.float.proofs.Range.{unit_small}
 use Rattle.plane.specs.Plane.{value_of}
 use Rattle.plane.specs.Coordinates.{parity_of}
 use Rattle.plane.proofs.Claims.{value_in_unit}
-use Rattle.field.specs.declared.Chosen.{Chosen}
-use Rattle.field.specs.declared.Chosen.TheVariants as chosen
+use Rattle.std.proofs.Common.{Option, Some, None}
+use Rattle.field.specs.declared.Parity.{Parity}
 use Rattle.field.specs.declared.Parity.TheVariants as parity
 use Rattle.filter.specs.Rows.{first_row_or, weaves}
 use Rattle.filter.specs.declared.Quality.{Quality}
@@ -23,8 +23,7 @@ use Rattle.filter.specs.declared.Quality.TheVariants.{Weave, Bob, Yadif, Bwdif}
 use Rattle.filter.specs.declared.Making.{Making}
 use Rattle.filter.specs.Filter.{made_of, sample_of}
 use Rattle.filter.specs.Making.{of_planes}
-use Rattle.filter.specs.declared.Edged.TheVariants as edged
-use Rattle.filter.specs.Claims.{PlaneIsReadable, SampleInUnit, MadeInUnit, ShownIsOwn, WeaveTakesMate, EndsOrdered, EdgeInReach, EdgeIsEarliestLeast, ScoresCompare, EdgeSays, SampleSays, OutputRowsGood, FieldRowsGood, OneEdged}
+use Rattle.filter.specs.Claims.{PlaneIsReadable, SampleInUnit, MadeInUnit, ShownIsOwn, WeaveTakesMate, EndsOrdered, EdgeInReach, EdgeIsEarliestLeast, ScoresCompare, EdgeSays, SampleSays, OutputRowsGood, FieldRowsGood}
 use Rattle.filter.proofs.Sizes as sizes
 use Rattle.filter.proofs.Samples.{woven_mate, woven_own, shown_own, missing_made}
 use Rattle.filter.proofs.Slants as tries
@@ -89,10 +88,10 @@ unfolding rising
 sample_says making before cur after x y = lowest_says _ tt
 
 -- the first row of the field that was chosen, and another number where neither was
-first_good : (chosen : Chosen) (none most : ℕ) → 1 ≤ most → none ≤ most → leb (first_row_or chosen none) most ≡ true
-first_good (chosen.Field parity.Top) none most some few = le-leb 0 most zero-le
-first_good (chosen.Field parity.Bottom) none most some few = le-leb 1 most some
-first_good chosen.Neither none most some few = le-leb none most few
+first_good : (chosen : Option Parity) (none most : ℕ) → 1 ≤ most → none ≤ most → leb (first_row_or chosen none) most ≡ true
+first_good (Some parity.Top) none most some few = le-leb 0 most zero-le
+first_good (Some parity.Bottom) none most some few = le-leb 1 most some
+first_good None none most some few = le-leb none most few
 
 pub output_rows_good : OutputRowsGood
 output_rows_good output = ap₂ (λ (a b : Bool). a && b) (first_good output.field 0 1 (lit≤ tt) (lit≤ tt)) (first_good output.weave 2 2 (lit≤ tt) (lit≤ tt))
@@ -100,9 +99,3 @@ output_rows_good output = ap₂ (λ (a b : Bool). a && b) (first_good output.fie
 pub field_rows_good : FieldRowsGood
 field_rows_good parity.Top = refl
 field_rows_good parity.Bottom = refl
-
-pub one_edged : OneEdged
-one_edged (edged.Slant j) (edged.Slant k) e v = cc
-one_edged (edged.Slant j) (edged.Refused n) e v = cc
-one_edged (edged.Refused m) (edged.Slant k) e v = cc
-one_edged (edged.Refused m) (edged.Refused n) e v = cc

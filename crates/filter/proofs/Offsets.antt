@@ -118,16 +118,13 @@ pub far_below : (x j : ℕ) → 3 * j ≤ x + 6 → unbiased (x + 6 - 3 * j) ≡
 far_below x j h = moved x 6 (3 * j) h ∙ ap (λ (z : ℤ). unbiased x +ℤ z) (sym (ap neg_ℤ (three_steps j) ∙ neg_difference (3 * j) 6))
 
 -- ---- the size of a slant
-pub step_below : (j : ℕ) → j < 2 → nat_abs (step j) ≡ 2 - j
-step_below j h = rw (lt-ltb j 2 h) (omega arith)
-
-pub step_from : (j : ℕ) → 2 ≤ j → nat_abs (step j) ≡ j - 2
-step_from j h = rw (le-ltb j 2 h)
+pub step_away : (j : ℕ) → j - 2 + (2 - j) ≡ nat_abs (step j)
+step_away j = go (ltb j 2) refl
+  where
+    go : (p : Bool) → ltb j 2 ≡ p → j - 2 + (2 - j) ≡ nat_abs (step j)
+    go true h = rw h (omega (arith, ltb-true j 2 h))
+    go false h = rw h (omega (arith, ltb-false j 2 h))
 
 -- A held slant of at most 2 either way is at most 4.
 pub step_within : (j : ℕ) → nat_abs (step j) ≤ 2 → j ≤ 4
-step_within j h = go (ltb j 2) refl
-  where
-    go : (p : Bool) → ltb j 2 ≡ p → j ≤ 4
-    go true k = omega (arith, ltb-true j 2 k)
-    go false k = omega (arith, step_from j (ltb-false j 2 k), ltb-false j 2 k)
+step_within j h = omega (arith, step_away j)

@@ -5,19 +5,8 @@ use Rattle.plane.specs.declared.Shape.{Shape}
 use Rattle.plane.specs.Coordinates.{in_reach}
 use Rattle.plane.specs.Answer.{at_tests}
 use Rattle.filter.specs.declared.Making.{Making}
-use Rattle.filter.specs.declared.Edged.{Edged}
-use Rattle.filter.specs.declared.Edged.TheVariants as edged
 use Rattle.filter.specs.Rows.{good_rows}
 use Rattle.filter.specs.Making.{planes_good, planes_alike, planes_whole}
-
--- An answer by its cases: a slant is number 0 and that slant, a refusal its number and no slant.
-abbrev pub edged_no : Edged → ℕ
-edged_no (edged.Slant j) = 0
-edged_no (edged.Refused n) = n
-
-abbrev pub edged_values : Edged → List ℤ
-edged_values (edged.Slant j) = j ∷ []
-edged_values (edged.Refused n) = []
 
 -- 3, 4 and 6 as of `at`.
 abbrev pub edge_tests : Shape → ℕ → ℤ → ℤ → List (ℕ × Bool)

@@ -15,11 +15,10 @@ use Rattle.filter.specs.declared.Quality.{Quality}
 use Rattle.filter.specs.declared.Quality.TheVariants.{Weave}
 use Rattle.filter.specs.declared.Rows.{Rows}
 use Rattle.filter.specs.declared.Making.{Making}
-use Rattle.filter.specs.declared.Edged.{Edged}
 use Rattle.filter.specs.Filter.{Sampler, average_of, moved_of, score_of, slanted_of, edge_of, sample_of}
 use Rattle.filter.specs.Rows.{weaves, good_rows, rows_of, field_rows_of}
 use Rattle.filter.specs.Making.{sample_in}
-use Rattle.filter.specs.Answer.{edged_no, edged_values, edge_tests, sample_tests}
+use Rattle.filter.specs.Answer.{edge_tests, sample_tests}
 
 -- ---- values
 
@@ -125,7 +124,3 @@ OutputRowsGood = (output : Output) → good_rows (rows_of output) ≡ true
 
 abbrev pub FieldRowsGood : Type 0
 FieldRowsGood = (first : Parity) → good_rows (field_rows_of (first_row_of first)) ≡ true
-
--- Answers of one number and the same values are one answer.
-abbrev pub OneEdged : Type 0
-OneEdged = (a b : Edged) → edged_no a ≡ edged_no b → edged_values a ≡ edged_values b → a ≡ b

@@ -1,8 +1,7 @@
 -- Which rows are shown (docs/RULES.md, "Rows a field lacks" and "Colour and comb": no field means first 0, no mate means 2).
-use Rattle.std.specs.Prelude.{ℕ, Bool, true, false, cond, ◌&&◌, leb, eqb}
+use Rattle.std.specs.Prelude.{ℕ, Bool, true, false, cond, ◌&&◌, leb, eqb, Option, Some, None}
 use Rattle.field.specs.declared.Output.{Output}
-use Rattle.field.specs.declared.Chosen.{Chosen}
-use Rattle.field.specs.declared.Chosen.TheVariants as chosen
+use Rattle.field.specs.declared.Parity.{Parity}
 use Rattle.field.specs.Field.{first_row_of}
 use Rattle.filter.specs.declared.Quality.{Quality}
 use Rattle.filter.specs.declared.Quality.TheVariants.{Weave, Bob, Yadif, Bwdif}
@@ -20,9 +19,9 @@ weaves Yadif = false
 weaves Bwdif = false
 
 -- the first row of the field that was chosen, and another number where neither was
-abbrev pub first_row_or : Chosen → ℕ → ℕ
-first_row_or (chosen.Field parity) none = first_row_of parity
-first_row_or chosen.Neither none = none
+abbrev pub first_row_or : Option Parity → ℕ → ℕ
+first_row_or (Some parity) none = first_row_of parity
+first_row_or None none = none
 
 abbrev pub rows_of : Output → Rows
 rows_of output = record { first = first_row_or output.field 0; mate = first_row_or output.weave 2 }

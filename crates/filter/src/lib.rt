@@ -1,24 +1,27 @@
 // Copyright 2026 Till0196
 // SPDX-License-Identifier: Apache-2.0
 // Carried over from core/src/output/video/filter.rs (`sample`, `edge`, `Rows`), and changed: a plane is a
-// lent slice beside its shape, closures are functions, and what is out of bounds is refused by number.
+// lent slice beside its shape, closures are functions, and what is out of bounds is refused.
 //
 // The rows a field lacks, sample by sample.
 #![tactic(auto)]
 
-ghost use Rattle.std.specs.Prelude.{◌≡◌, ◌≤◌, nat_abs, length};
+ghost use Rattle.std.specs.Prelude.{◌≡◌, ◌≤◌, length};
 ghost use Rattle.laws.specs.Refusal.{when_done};
+ghost use Rattle.refusal.specs.Refusal.{no_of, values_of};
 ghost use Rattle.plane.specs.Plane.{value_of};
 ghost use Rattle.plane.specs.Coordinates.{parity_of, unbiased};
-ghost use Rattle.plane.specs.Answer.{sampled_no, sampled_values};
 ghost use Rattle.filter.specs.Filter.{mean_of, gap_of, wider_of, beyond_of, bob_of, held_of, in_motion_of, across_of, score_of, slanted_of, better_of, edge_of, near_of, far_of, yadif_of, cubic_of, bwdif_of};
 ghost use Rattle.filter.specs.Rows.{quality_named, weaves, first_row_or, rows_of, good_rows, field_rows_of};
 ghost use Rattle.filter.specs.Making.{of_planes, made_in, sample_in, planes_good, planes_alike, planes_whole};
 ghost use Rattle.filter.specs.Held.{Room, step, seen};
-ghost use Rattle.filter.specs.Answer.{edged_no, edged_values, edge_no, sample_no};
+ghost use Rattle.filter.specs.Answer.{edge_no, sample_no};
+
+use field::Parity;
+use refusal::Refusal;
 
 // How missing rows are made. Weave makes none: it takes both fields as they stand.
-#[derive(Clone, Copy)]
+#[derive(Clone, Copy, Debug, PartialEq, Eq)]
 pub enum Quality {
     Weave,
     Bob,
@@ -27,14 +30,15 @@ pub enum Quality {
 }
 
 // The rows that are shown of `cur`, 0 or 1, and those that Weave takes from `before`, 0 or 1, or 2 for none.
-#[derive(Clone, Copy)]
+// Plain numbers: what exports promise speaks of any number that a host gives here.
+#[derive(Clone, Copy, Debug, PartialEq, Eq)]
 pub struct Rows {
     pub first: u32,
     pub mate: u32,
 }
 
 // What a plane is made by. The three shapes are those of the planes that it is made from.
-#[derive(Clone, Copy)]
+#[derive(Clone, Copy, Debug, PartialEq, Eq)]
 pub struct Making {
     pub quality: Quality,
     pub rows: Rows,
@@ -48,41 +52,37 @@ impl Quality {
     pub fn named(code: u8) -> Quality
         ensures { result ≡ quality_named code }
     {
-        if code == 0 {
-            return Quality::Weave;
+        match code {
+            0 => Quality::Weave,
+            1 => Quality::Bob,
+            2 => Quality::Yadif,
+            _ => Quality::Bwdif,
         }
-        if code == 1 {
-            return Quality::Bob;
-        }
-        if code == 2 {
-            Quality::Yadif
-        } else {
-            Quality::Bwdif
-        }
+    }
+
+    fn is_weave(self) -> bool
+        ensures { result ≡ weaves self }
+    {
+        self == Quality::Weave
     }
 }
 
 // A row is even or odd, so 2 is none.
 const NO_MATE: u32 = 2;
 
-fn first_row_or(chosen: field::Chosen, none: u32) -> u32
+fn first_row_or(chosen: Option<Parity>, none: u32) -> u32
     ensures { result ≡ first_row_or chosen none }
 {
-    match chosen {
-        field::Chosen::Field(parity) => parity.first_row(),
-        field::Chosen::Neither => none,
-    }
+    chosen.map_or(none, Parity::first_row)
 }
 
 impl Rows {
     pub fn of(output: field::Output) -> Rows
         ensures { result ≡ rows_of output }
     {
-        let shown = output.field;
-        let mate = output.weave;
         Rows {
-            first: first_row_or(shown, 0),
-            mate: first_row_or(mate, NO_MATE),
+            first: first_row_or(output.field, 0),
+            mate: first_row_or(output.weave, NO_MATE),
         }
     }
 
@@ -97,16 +97,11 @@ impl Rows {
     }
 }
 
-#[derive(Clone, Copy)]
-pub enum Edged {
-    Slant(i32),
-    Refused(u8),
-}
-
 // By how much a slant has to match better than straight up and down, so that one that matches by chance
 // does not spoil what is flat.
 const SLANT_BIAS: f32 = 0.002;
 
+#[tactic(auto, unfolding(crate::specs::Filter::gap_of))]
 pub fn gap(a: f32, b: f32) -> f32
     ensures { result ≡ gap_of a b }
 {
@@ -126,18 +121,21 @@ fn bob(cur: &[u8], s: plane::Shape, x: u32, y: u32) -> f32
 // is the row. Else the value may lie as far from it as something moved, and in any case far enough to
 // come between the rows above and below.
 
+#[tactic(auto, unfolding(crate::specs::Filter::mean_of))]
 pub fn mean(a: f32, b: f32) -> f32
     ensures { result ≡ mean_of a b }
 {
     (a + b) * 0.5
 }
 
+#[tactic(auto, unfolding(crate::specs::Filter::wider_of))]
 pub fn wider(a: f32, b: f32, c: f32) -> f32
     ensures { result ≡ wider_of a b c }
 {
     float::max(gap(a, c), gap(b, c))
 }
 
+#[tactic(auto, unfolding(crate::specs::Filter::beyond_of))]
 pub fn beyond(v: f32, c: f32, e: f32) -> f32
     ensures { result ≡ beyond_of v c e }
 {
@@ -146,6 +144,7 @@ pub fn beyond(v: f32, c: f32, e: f32) -> f32
     float::max(float::max(under, over), 0.0)
 }
 
+#[tactic(auto, unfolding(crate::specs::Filter::held_of))]
 pub fn hold(along: f32, average: f32, moved: f32) -> f32
     ensures { result ≡ held_of along average moved }
 {
@@ -168,25 +167,22 @@ fn in_motion(
     requires { Room y }
     ensures { result ≡ of_planes in_motion_of making before.now cur.now after.now (unbiased x) (unbiased y) along }
 {
-    let before_shape = making.before;
-    let cur_shape = making.cur;
-    let after_shape = making.after;
     let up = y - 1;
     let down = y + 1;
-    let earlier = plane::value_at(before, before_shape, x, y);
-    let later = plane::value_at(after, after_shape, x, y);
-    let c = plane::value_at(cur, cur_shape, x, up);
-    let e = plane::value_at(cur, cur_shape, x, down);
+    let earlier = plane::value_at(before, making.before, x, y);
+    let later = plane::value_at(after, making.after, x, y);
+    let c = plane::value_at(cur, making.cur, x, up);
+    let e = plane::value_at(cur, making.cur, x, down);
     let average = mean(earlier, later);
     let change = gap(earlier, later);
     let above = wider(
-        plane::value_at(before, before_shape, x, up),
-        plane::value_at(after, after_shape, x, up),
+        plane::value_at(before, making.before, x, up),
+        plane::value_at(after, making.after, x, up),
         c,
     );
     let below = wider(
-        plane::value_at(before, before_shape, x, down),
-        plane::value_at(after, after_shape, x, down),
+        plane::value_at(before, making.before, x, down),
+        plane::value_at(after, making.after, x, down),
         e,
     );
     let outside = beyond(average, c, e);
@@ -212,6 +208,7 @@ fn across(cur: &[u8], s: plane::Shape, x: u32, y: u32, k: u32, j: u32) -> f32
     gap(above, below)
 }
 
+#[tactic(auto, unfolding(crate::specs::Filter::score_of))]
 fn score(cur: &[u8], s: plane::Shape, x: u32, y: u32, j: u32) -> f32
     requires { Room x × Room y × (j ≤ 4) }
     ensures { result ≡ score_of (value_of cur.now s) (unbiased x) (unbiased y) (step j) }
@@ -219,29 +216,19 @@ fn score(cur: &[u8], s: plane::Shape, x: u32, y: u32, j: u32) -> f32
     across(cur, s, x, y, 1, j) + across(cur, s, x, y, 2, j) + across(cur, s, x, y, 3, j)
 }
 
-// |j|
-fn steepness(j: u32) -> u32
-    requires { j ≤ 4 }
-    ensures { (result ≡ nat_abs (step j)) × (result ≤ 2) }
-{
-    if j < 2 { 2 - j } else { j - 2 }
-}
-
 fn slanted(cur: &[u8], s: plane::Shape, x: u32, y: u32, j: u32) -> f32
     requires { Room x × Room y × (j ≤ 4) }
     ensures { result ≡ slanted_of (value_of cur.now s) (unbiased x) (unbiased y) (step j) }
 {
-    score(cur, s, x, y, j) + SLANT_BIAS * (steepness(j) as f32)
+    score(cur, s, x, y, j) + SLANT_BIAS * (j.abs_diff(2) as f32)
 }
 
-fn better(best: Best, j: u32, score: f32) -> Best
-    ensures { seen result ≡ better_of (seen best) (step j) score }
+#[tactic(auto, unfolding(crate::specs::Filter::better_of))]
+fn better(best: Best, slant: u32, score: f32) -> Best
+    ensures { seen result ≡ better_of (seen best) (step slant) score }
 {
     if score < best.score {
-        Best {
-            slant: j,
-            score: score,
-        }
+        Best { slant, score }
     } else {
         best
     }
@@ -286,56 +273,48 @@ fn far(cur: &[u8], s: plane::Shape, x: u32, y: u32, j: u32) -> f32
     plane::value_at(cur, s, x + 3 * j - 6, y - 3) + plane::value_at(cur, s, x + 6 - 3 * j, y + 3)
 }
 
+#[tactic(auto, unfolding(crate::specs::Filter::yadif_of))]
 fn yadif(making: Making, before: &[u8], cur: &[u8], after: &[u8], x: u32, y: u32) -> f32
     requires { Room x × Room y }
     ensures { result ≡ of_planes yadif_of making before.now cur.now after.now (unbiased x) (unbiased y) }
 {
-    let shape = making.cur;
-    let j = edge_at(cur, shape, x, y);
-    let along = near(cur, shape, x, y, j) * 0.5;
+    let j = edge_at(cur, making.cur, x, y);
+    let along = near(cur, making.cur, x, y, j) * 0.5;
     in_motion(making, before, cur, after, x, y, along)
 }
 
+#[tactic(auto, unfolding(crate::specs::Filter::cubic_of))]
 pub fn cubic(near: f32, far: f32) -> f32
     ensures { result ≡ cubic_of near far }
 {
     (9.0 * near - far) / 16.0
 }
 
+#[tactic(auto, unfolding(crate::specs::Filter::bwdif_of))]
 fn bwdif(making: Making, before: &[u8], cur: &[u8], after: &[u8], x: u32, y: u32) -> f32
     requires { Room x × Room y }
     ensures { result ≡ of_planes bwdif_of making before.now cur.now after.now (unbiased x) (unbiased y) }
 {
-    let shape = making.cur;
-    let j = edge_at(cur, shape, x, y);
-    let along = cubic(near(cur, shape, x, y, j), far(cur, shape, x, y, j));
+    let j = edge_at(cur, making.cur, x, y);
+    let along = cubic(
+        near(cur, making.cur, x, y, j),
+        far(cur, making.cur, x, y, j),
+    );
     in_motion(making, before, cur, after, x, y, along)
 }
 
 // ---- a sample
 
+#[tactic(auto, unfolding(crate::specs::Filter::made_of))]
 fn made(making: Making, before: &[u8], cur: &[u8], after: &[u8], x: u32, y: u32) -> f32
     requires { Room x × Room y }
     ensures { result ≡ made_in making before.now cur.now after.now (unbiased x) (unbiased y) }
 {
-    let quality = making.quality;
-    let shape = making.cur;
-    match quality {
-        Quality::Weave => plane::value_at(cur, shape, x, y),
-        Quality::Bob => bob(cur, shape, x, y),
+    match making.quality {
+        Quality::Weave => plane::value_at(cur, making.cur, x, y),
+        Quality::Bob => bob(cur, making.cur, x, y),
         Quality::Yadif => yadif(making, before, cur, after, x, y),
         Quality::Bwdif => bwdif(making, before, cur, after, x, y),
-    }
-}
-
-fn is_weave(quality: Quality) -> bool
-    ensures { result ≡ weaves quality }
-{
-    match quality {
-        Quality::Weave => true,
-        Quality::Bob => false,
-        Quality::Yadif => false,
-        Quality::Bwdif => false,
     }
 }
 
@@ -352,50 +331,30 @@ fn sample_at(
     requires { Room x × Room y × (parity ≡ parity_of (unbiased y)) }
     ensures { result ≡ sample_in making before.now cur.now after.now (unbiased x) (unbiased y) }
 {
-    let quality = making.quality;
-    let rows = making.rows;
-    let before_shape = making.before;
-    let cur_shape = making.cur;
-    if is_weave(quality) {
-        if parity == rows.mate {
-            return plane::value_at(before, before_shape, x, y);
+    if making.quality.is_weave() {
+        if parity == making.rows.mate {
+            return plane::value_at(before, making.before, x, y);
         }
-        return plane::value_at(cur, cur_shape, x, y);
+        return plane::value_at(cur, making.cur, x, y);
     }
-    if parity == rows.first {
-        return plane::value_at(cur, cur_shape, x, y);
+    if parity == making.rows.first {
+        return plane::value_at(cur, making.cur, x, y);
     }
     made(making, before, cur, after, x, y)
 }
 
 // ---- the two calls
 
-// The slant that is held.
-fn signed(j: u32) -> i32
-    requires { j ≤ 4 }
-    ensures { result ≡ step j }
-{
-    match j {
-        0 => -2,
-        1 => -1,
-        2 => 0,
-        3 => 1,
-        _ => 2,
-    }
-}
-
 pub fn planes_good(making: Making) -> bool
     ensures { result ≡ planes_good making }
 {
-    plane::good_shape(making.before)
-        & plane::good_shape(making.cur)
-        & plane::good_shape(making.after)
+    making.before.is_good() & making.cur.is_good() & making.after.is_good()
 }
 
 pub fn planes_alike(making: Making) -> bool
     ensures { result ≡ planes_alike making }
 {
-    plane::planes_agree(making.cur, making.before) & plane::planes_agree(making.cur, making.after)
+    making.cur.agrees(making.before) & making.cur.agrees(making.after)
 }
 
 pub fn planes_whole(
@@ -406,9 +365,9 @@ pub fn planes_whole(
 ) -> bool
     ensures { result ≡ planes_whole making before_bytes cur_bytes after_bytes }
 {
-    (plane::plane_bytes(making.before) <= before_bytes)
-        & (plane::plane_bytes(making.cur) <= cur_bytes)
-        & (plane::plane_bytes(making.after) <= after_bytes)
+    (making.before.bytes() <= before_bytes)
+        & (making.cur.bytes() <= cur_bytes)
+        & (making.after.bytes() <= after_bytes)
 }
 
 pub fn rows_good(rows: Rows) -> bool
@@ -417,51 +376,43 @@ pub fn rows_good(rows: Rows) -> bool
     (rows.first <= 1) & (rows.mate <= 2)
 }
 
-fn sample_no(
+// Whether a sample can be made, of planes of so many bytes. Numbers 3 to 6.
+#[tactic(auto, unfolding(laws::specs::Refusal::lowest))]
+fn judge(
     making: Making,
     before_bytes: usize,
     cur_bytes: usize,
     after_bytes: usize,
     x: i32,
     y: i32,
-) -> u8
-    ensures { result ≡ sample_no making before_bytes cur_bytes after_bytes x y }
+) -> Result<(), Refusal>
+    ensures { no_of result ≡ sample_no making before_bytes cur_bytes after_bytes x y }
 {
-    let rows = making.rows;
-    let inside = rows_good(rows) & plane::in_reach(x) & plane::in_reach(y);
-    let whole = planes_whole(making, before_bytes, cur_bytes, after_bytes);
-    let differ = refusal::test(
-        refusal::DIFFER,
-        planes_alike(making),
-        refusal::test(refusal::SHORT_INPUT, whole, refusal::DONE),
-    );
-    refusal::test(
-        refusal::OUTSIDE,
-        inside,
-        refusal::test(refusal::SHAPE, planes_good(making), differ),
-    )
+    let inside = rows_good(making.rows) & plane::in_reach(x) & plane::in_reach(y);
+    Refusal::Outside.unless(inside)?;
+    Refusal::Shape.unless(planes_good(making))?;
+    Refusal::Differ.unless(planes_alike(making))?;
+    Refusal::ShortInput.unless(planes_whole(making, before_bytes, cur_bytes, after_bytes))
+}
+
+// The same of the edge, which is that of one plane. Numbers 3, 4 and 6.
+#[tactic(auto, unfolding(laws::specs::Refusal::lowest))]
+fn readable(shape: plane::Shape, bytes: usize, x: i32, y: i32) -> Result<(), Refusal>
+    ensures { no_of result ≡ edge_no shape bytes x y }
+{
+    Refusal::Outside.unless(plane::in_reach(x) & plane::in_reach(y))?;
+    Refusal::Shape.unless(shape.is_good())?;
+    Refusal::ShortInput.unless(shape.bytes() <= bytes)
 }
 
 // How the edge runs at a place of a missing row: the upper row is looked at this far to the right, and
 // the lower as far to the left.
-pub fn edge(cur: &[u8], shape: plane::Shape, x: i32, y: i32) -> Edged
-    ensures { (edged_no result ≡ edge_no shape (length cur.now) x y) × (edged_values result ≡ when_done (edge_no shape (length cur.now) x y) (edge_of (value_of cur.now shape) x y)) }
+pub fn edge(cur: &[u8], shape: plane::Shape, x: i32, y: i32) -> Result<i32, Refusal>
+    ensures { (no_of result ≡ edge_no shape (length cur.now) x y) × (values_of result ≡ when_done (edge_no shape (length cur.now) x y) (edge_of (value_of cur.now shape) x y)) }
 {
-    let whole = plane::plane_bytes(shape) <= cur.len();
-    let no = refusal::test(
-        refusal::OUTSIDE,
-        plane::in_reach(x) & plane::in_reach(y),
-        refusal::test(
-            refusal::SHAPE,
-            plane::good_shape(shape),
-            refusal::test(refusal::SHORT_INPUT, whole, refusal::DONE),
-        ),
-    );
-    if no == 0 {
-        Edged::Slant(signed(edge_at(cur, shape, plane::biased(x), plane::biased(y))))
-    } else {
-        Edged::Refused(no)
-    }
+    readable(shape, cur.len(), x, y)?;
+    let slant = edge_at(cur, shape, plane::biased(x), plane::biased(y));
+    Ok(slant as i32 - 2)
 }
 
 // The value at a place, of a picture that shows the rows `making.rows.first` of `cur`.
@@ -472,22 +423,18 @@ pub fn sample(
     after: &[u8],
     x: i32,
     y: i32,
-) -> plane::Sampled
-    ensures result_value { sampled_no result ≡ sample_no making (length before.now) (length cur.now) (length after.now) x y }
-    ensures result_value_2 { sampled_values result ≡ when_done (sampled_no result) (sample_in making before.now cur.now after.now x y) }
+) -> Result<f32, Refusal>
+    ensures result_value { no_of result ≡ sample_no making (length before.now) (length cur.now) (length after.now) x y }
+    ensures result_value_2 { values_of result ≡ when_done (no_of result) (sample_in making before.now cur.now after.now x y) }
 {
-    let no = sample_no(making, before.len(), cur.len(), after.len(), x, y);
-    if no == 0 {
-        plane::Sampled::Value(sample_at(
-            making,
-            before,
-            cur,
-            after,
-            plane::row_parity(y),
-            plane::biased(x),
-            plane::biased(y),
-        ))
-    } else {
-        plane::Sampled::Refused(no)
-    }
+    judge(making, before.len(), cur.len(), after.len(), x, y)?;
+    Ok(sample_at(
+        making,
+        before,
+        cur,
+        after,
+        plane::row_parity(y),
+        plane::biased(x),
+        plane::biased(y),
+    ))
 }

@@ -2,6 +2,7 @@
 use Rattle.std.specs.Prelude.{ℕ, List}
 use contract.Lifetimes.{Lfts}
 use Rattle.std.specs.Borrow.{Bor}
+use denote.MutBor.{MutBor}
 use denote.Triple.Both.{Both}
 use denote.Triple.Clauses.{AtExit}
 use borrow.Fn.Kinds.{ParamKind, ResultKind, Out, Dens, res_t, ended_of}
@@ -15,3 +16,7 @@ Comes n ps r meets says = (κs : Lfts n) (a : Dens κs ps) (x : (res_t r κs).De
 -- A slice of bytes as an `ensures` has it: `.entry` is what is lent, and `now slice.entry` the bytes that the call finds.
 abbrev pub Slice : Type 0 → Type 0
 Slice A = Both (Bor (List ℕ)) A
+
+-- The same of one that is lent for writing: `.entry.now` is what stands there when the call begins.
+abbrev pub Output : Type 0 → Type 0
+Output A = Both (MutBor (List ℕ)) A

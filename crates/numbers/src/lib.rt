@@ -7,10 +7,12 @@ ghost use Rattle.std.specs.Prelude.{◌≡◌, min};
 ghost use Rattle.numbers.specs.Numbers.{layout_named, shape_named, grid_named};
 ghost use Rattle.numbers.specs.Inner.{cut, cut_grid};
 
+use plane::{Grid, Layout, Shape};
+
 // A plane's shape as the host gives it. The numbers are wider than a shape's own, so that none can wrap
 // into the bounds; a call refuses those outside.
 #[repr(C)]
-#[derive(Clone, Copy)]
+#[derive(Clone, Copy, Debug, PartialEq, Eq)]
 pub struct PlaneNumbers {
     // Samples of one component in a row.
     pub width: u32,
@@ -27,7 +29,7 @@ pub struct PlaneNumbers {
 // The shape of a plane whose codes are not shifted: of a picture, or of a field, whose rows are
 // its lines. The numbers are wider than a shape's own too.
 #[repr(C)]
-#[derive(Clone, Copy)]
+#[derive(Clone, Copy, Debug, PartialEq, Eq)]
 pub struct GridNumbers {
     // Samples in a row.
     pub width: u32,
@@ -38,60 +40,55 @@ pub struct GridNumbers {
     pub stride: u32,
 }
 
-fn layout_named(code: u32) -> plane::Layout
+fn layout_named(code: u32) -> Layout
     ensures { result ≡ layout_named code }
 {
-    if code == 0 {
-        return plane::Layout::Planar;
-    }
-    if code == 1 {
-        return plane::Layout::Luma;
-    }
-    if code == 2 {
-        plane::Layout::First
-    } else {
-        plane::Layout::Second
+    match code {
+        0 => Layout::Planar,
+        1 => Layout::Luma,
+        2 => Layout::First,
+        _ => Layout::Second,
     }
 }
 
 pub fn at_most_65535(n: u32) -> u16
     ensures { result ≡ min n 65535 }
 {
-    if n < 65536 { n as u16 } else { 65535 }
+    u16::try_from(n).unwrap_or(u16::MAX)
 }
 
 pub fn at_most_255(n: u32) -> u8
     ensures { result ≡ min n 255 }
 {
-    if n < 256 { n as u8 } else { 255 }
+    u8::try_from(n).unwrap_or(u8::MAX)
 }
 
-pub fn shape_named(numbers: PlaneNumbers) -> plane::Shape
+pub fn shape_named(numbers: PlaneNumbers) -> Shape
     ensures { result ≡ cut (shape_named numbers) }
 {
-    let layout = layout_named(numbers.layout);
-    let width = at_most_65535(numbers.width);
-    let height = at_most_65535(numbers.height);
-    let depth = at_most_255(numbers.depth);
-    plane::Shape {
-        width: width,
-        height: height,
-        depth: depth,
-        stride: numbers.stride,
-        layout: layout,
+    let PlaneNumbers {
+        width,
+        height,
+        depth,
+        stride,
+        layout,
+    } = numbers;
+    Shape {
+        width: at_most_65535(width),
+        height: at_most_65535(height),
+        depth: at_most_255(depth),
+        stride,
+        layout: layout_named(layout),
     }
 }
 
-pub fn grid_named(numbers: GridNumbers) -> plane::Grid
+pub fn grid_named(numbers: GridNumbers) -> Grid
     ensures { result ≡ cut_grid (grid_named numbers) }
 {
-    let columns = at_most_65535(numbers.width);
-    let rows = at_most_65535(numbers.height);
-    let bits = at_most_255(numbers.depth);
-    plane::Grid {
-        width: columns,
-        height: rows,
-        depth: bits,
+    Grid {
+        width: at_most_65535(numbers.width),
+        height: at_most_65535(numbers.height),
+        depth: at_most_255(numbers.depth),
         stride: numbers.stride,
     }
 }

@@ -19,10 +19,9 @@ use Rattle.plane.specs.declared.Shape.{Shape}
 use Rattle.plane.specs.Plane.{sample_bytes, full_code, word_of, code_of}
 use Rattle.readback.specs.declared.Readback.{Readback}
 use Rattle.readback.specs.declared.Sizes.{Sizes}
-use Rattle.readback.specs.declared.Needed.TheVariants.{Value, Refused}
 use Rattle.readback.specs.Readback.{luma_shape, cb_shape, cr_shape, cr_bytes_of, sizes_of, sizes_tests, sizes_no, outputs_hold, readback_tests, readback_no}
 use Rattle.readback.specs.Readback.{word_bytes, copied_row, copied_of}
-use Rattle.readback.specs.Claims.{SizesSays, ReadbackSays, OneNeeded, Shorter, Follows, CopyFollows, JustFills, SizesPacked, CopiedSize, WordsKept, CodesKept}
+use Rattle.readback.specs.Claims.{SizesSays, ReadbackSays, Shorter, Follows, CopyFollows, JustFills, SizesPacked, CopiedSize, WordsKept, CodesKept}
 use Rattle.readback.proofs.Rows.{length_word, length_copied}
 use Rattle.readback.proofs.Passed.{seven_behind, refusal_stands}
 
@@ -33,12 +32,6 @@ sizes_says r luma second third = lowest_says (sizes_tests r luma second third) t
 pub readback_says : ReadbackSays
 unfolding rising
 readback_says r luma second third luma_room cb_room cr_room = lowest_says (readback_tests r luma second third luma_room cb_room cr_room) tt
-
-pub one_needed : OneNeeded
-one_needed (Value sizes) (Value other) numbers values = cc
-one_needed (Value sizes) (Refused n) numbers values = cc
-one_needed (Refused n) (Value sizes) numbers values = cc
-one_needed (Refused n) (Refused m) numbers values = cc
 
 pub copied_size : CopiedSize
 unfolding copied_of

@@ -1,15 +1,16 @@
 -- Laws of rows: that the copy of a row, made by its kind, holds the plane's words.
-use Prim.Native.Nat.{ℕ, ◌+◌, ◌*◌, ◌/◌, ◌%◌, ◌^◌, ◌<◌}
+use Prim.Native.Nat.{ℕ, ◌+◌, ◌-◌, ◌*◌, ◌/◌, ◌%◌, ◌^◌, ◌≤◌, ◌<◌}
 use mathlib.Core.Path.{◌≡◌, refl, sym, ap, ap₂, ◌∙◌}
 use mathlib.Core.Bool.{Bool, true, false, cond}
-use mathlib.Core.List.{List, [], ◌∷◌}
+use mathlib.Core.List.{List, [], ◌∷◌, ◌++◌}
 use native.Mathlib.Nat.{div-one, mul_assoc}
 use native.Mathlib.Omega.{arith}
 use lib.Dec.{leb}
 use lib.ListN.{length, get_or, take, drop}
 use borrow.Author.Tests.{leb-true, lt-leb}
-use Rattle.laws.specs.Rows.{laid}
-use Rattle.laws.proofs.Lists.{part_at, same_laid, length_laid}
+use Rattle.laws.specs.Rows.{laid, over}
+use Rattle.laws.proofs.Lists.{part_at, part_length, same_laid, length_laid, Stacked, stack_starts, stacks, stack_ends}
+use Rattle.laws.proofs.Rows.{row_within, strided_within, length_part}
 use Rattle.plane.specs.declared.Shape.{Shape}
 use Rattle.plane.specs.declared.Layout.{Layout}
 use Rattle.plane.specs.declared.Layout.TheVariants.{Planar, Luma, First, Second}
@@ -17,8 +18,8 @@ use Rattle.plane.specs.Plane.{alone, components, component, sample_bytes, row_by
 use Rattle.plane.proofs.Places.{no_shift}
 use Rattle.readback.specs.declared.Kind.{Kind}
 use Rattle.readback.specs.declared.Kind.TheVariants.{Byte, EverySecondByte, Pair, EverySecondPair}
-use Rattle.readback.specs.Readback.{word_bytes, copied_row}
-use Rattle.readback.specs.Inner.{kind_by, kind_of, step_of, size_of, pair_of, copy_in}
+use Rattle.readback.specs.Readback.{word_bytes, copied_row, copied_of}
+use Rattle.readback.specs.Inner.{kind_by, kind_of, step_of, size_of, pair_of, copy_in, RowRoom, PlaneReady}
 
 -- ---- how long rows are
 step_by : (byte : Bool) (layout : Layout) → step_of (kind_by byte (alone layout)) ≡ components layout * cond byte 1 2
@@ -82,8 +83,8 @@ module _ (bytes : List ℕ) (start width x : ℕ) (l : x < width) where
       let kind = kind_by false (alone layout) in
       copy_in kind (take (width * step_of kind) (drop start bytes)) (component layout) right x
       ≡ pair_of bytes (start + (x * components layout + component layout) * 2) right
-  pair_there Planar right = two_there (width * 2) (x * 2) right (omega arith) (omega arith)
-  pair_there Luma right = two_there (width * 2) (x * 2) right (omega arith) (omega arith)
+  pair_there Planar right = two_there (width * 2) ((x * 1 + 0) * 2) right (omega arith) (omega arith)
+  pair_there Luma right = two_there (width * 2) ((x * 1 + 0) * 2) right (omega arith) (omega arith)
   pair_there First right = two_there (width * 4) ((x * 2 + 0) * 2) right (omega arith) (omega arith)
   pair_there Second right = two_there (width * 4) ((x * 2 + 1) * 2) right (omega arith) (omega arith)
 
@@ -128,3 +129,53 @@ row_copied bytes s y {kind} known long a r =
     (λ i. row_made kind bytes s.width s.stride (long i) (a i) (r i) y)
     ∙ (λ i. row_made (known i) bytes s.width s.stride (s.width * step_of (known i)) (component s.layout) (shift s.layout s.depth) y)
     ∙ same_laid s.width _ _ (λ x l. column_copied bytes s x y l)
+
+-- ---- a loop that copies row after row, of a plane that can be copied
+module _ {s : Shape} (plane out : List ℕ) (ready : PlaneReady s (length plane) (length out)) {kind : Kind} {width height step size : ℕ}
+    (known : kind ≡ kind_of s) (columns : width ≡ s.width) (all : height ≡ s.height) (apart : step ≡ step_of kind)
+    (packed : size ≡ s.width * sample_bytes s.depth) where
+  kept : width * size_of kind ≡ size
+  kept = ap₂ (λ (n : ℕ) (k : Kind). n * size_of k) columns known ∙ sym (copy_size s) ∙ sym packed
+
+  taken : width * step ≡ row_bytes s
+  taken = ap₂ (λ (n k : ℕ). n * k) columns apart ∙ ap (λ (k : Kind). s.width * step_of k) known ∙ row_size s
+
+  pub row_room : (y : ℕ) → y < height → y * size + size ≤ length out
+  row_room y l = row_within y height size (length out) l (rw (all, packed) ready.roomy)
+
+  pub row_ends : (y : ℕ) → y < height → y * s.stride + width * step ≤ length plane
+  row_ends y l = strided_within s.stride s.height (width * step) (length plane) y (rw taken ready.long) (omega (arith, all))
+
+  pub row_ready :
+      (new : List ℕ) {row : List ℕ} (y : ℕ) →
+      y < height → length new ≡ length out → row ≡ take (width * step) (drop (y * s.stride) plane) →
+      RowRoom kind width (take (y * size + size - y * size) (drop (y * size) new)) row
+  row_ready new y l long e = record {
+    source = ap length e ∙ part_length plane (y * s.stride) _ (row_ends y l) ∙ ap (λ (k : ℕ). width * k) apart;
+    target = length_part (y * size) size new (omega (arith, row_room y l, long)) ∙ sym kept;
+  }
+
+  module _ (lane right : ℕ) where
+    wide : (y : ℕ) → length (row_made kind plane width s.stride (width * step) lane right y) ≡ size
+    wide y = length_made kind plane width s.stride (width * step) lane right y ∙ kept
+
+    pub no_row : Stacked (row_made kind plane width s.stride (width * step) lane right) size height out out 0
+    no_row = stack_starts wide
+
+    pub one_row :
+        {new part row : List ℕ} (y : ℕ) →
+        Stacked (row_made kind plane width s.stride (width * step) lane right) size height out new y → y < height →
+        row ≡ take (width * step) (drop (y * s.stride) plane) → part ≡ laid width (copy_in kind row lane right) →
+        Stacked (row_made kind plane width s.stride (width * step) lane right) size height out (take (y * size) new ++ (part ++ drop (y * size + size - y * size) (drop (y * size) new))) (y + 1)
+    one_row y made l e f = stacks wide made l (rw (all, packed) ready.roomy) refl (f ∙ ap (λ (row : List ℕ). laid width (copy_in kind row lane right)) e)
+
+    pub all_rows :
+        {new : List ℕ} {y : ℕ} →
+        lane ≡ component s.layout → right ≡ shift s.layout s.depth →
+        Stacked (row_made kind plane width s.stride (width * step) lane right) size height out new y → height ≤ y →
+        new ≡ over (copied_of plane s) out
+    unfolding copied_of
+    all_rows a r made l =
+        stack_ends wide made l
+        ∙ (λ i. over (laid (all i) (row_made kind plane (columns i) s.stride (columns i * apart i) lane right)) out)
+        ∙ ap (λ (rows : List ℕ). over rows out) (same_laid s.height _ _ (λ y l. row_copied plane s y known refl a r))

@@ -7,9 +7,8 @@ use Rattle.plane.specs.declared.Layout.TheVariants.{Planar}
 use Rattle.plane.specs.Plane.{sample_bytes, word_of, code_of, half}
 use Rattle.readback.specs.declared.Readback.{Readback}
 use Rattle.readback.specs.declared.Sizes.{Sizes}
-use Rattle.readback.specs.declared.Needed.{Needed}
 use Rattle.readback.specs.Readback.{luma_shape, cb_shape, cr_shape, cr_bytes_of, packed_bytes, sizes_of, sizes_tests, sizes_no, readback_tests, readback_no}
-use Rattle.readback.specs.Readback.{needed_no, needed_values, copied_of, copied_after}
+use Rattle.readback.specs.Readback.{copied_of, copied_after}
 
 -- ---- the numbers: 0 exactly when no number applies, and otherwise the lowest that does, of each call's own tests
 
@@ -18,10 +17,6 @@ SizesSays = (r : Readback) (luma second third : ℕ) → Says (sizes_tests r lum
 
 abbrev pub ReadbackSays : Type 0
 ReadbackSays = (r : Readback) (luma second third luma_room cb_room cr_room : ℕ) → Says (readback_tests r luma second third luma_room cb_room cr_room)
-
--- number and sizes leave no choice: a contract that settles both settles the answer
-abbrev pub OneNeeded : Type 0
-OneNeeded = (a b : Needed) → needed_no a ≡ needed_no b → needed_values a ≡ needed_values b → a ≡ b
 
 -- ---- the two calls
 

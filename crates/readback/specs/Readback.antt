@@ -1,9 +1,7 @@
 -- A frame read back from a device (docs/RULES.md, "Fields and readback"; the source is weave.rs): the sizes that `readback_sizes` tells, the
 -- numbers of both calls, and the three planes that `readback_copy` copies out.
 use Rattle.std.specs.Prelude.{ℕ, ◌*◌, ◌/◌, ◌%◌, Bool, cond, ◌&&◌, List, [], ◌∷◌, ◌++◌, leb, eqb, length}
-use denote.MutBor.{MutBor}
-use denote.Triple.Both.{Both}
-use Rattle.laws.specs.Lent.{Slice}
+use Rattle.laws.specs.Lent.{Slice, Output}
 use Rattle.laws.specs.Refusal.{lowest, written}
 use Rattle.laws.specs.Rows.{laid, over}
 use Rattle.plane.specs.declared.Shape.{Shape}
@@ -11,8 +9,6 @@ use Rattle.plane.specs.declared.Layout.TheVariants.{Luma, First, Second}
 use Rattle.plane.specs.Plane.{good_shape, plane_bytes, sample_bytes, word_of, half}
 use Rattle.readback.specs.declared.Readback.{Readback}
 use Rattle.readback.specs.declared.Sizes.{Sizes}
-use Rattle.readback.specs.declared.Needed.{Needed}
-use Rattle.readback.specs.declared.Needed.TheVariants.{Value, Refused}
 
 -- ---- the planes that were read back
 
@@ -51,15 +47,6 @@ packed_bytes s = s.height * (s.width * sample_bytes s.depth)
 abbrev pub sizes_of : Readback → Sizes
 sizes_of r = record { luma = packed_bytes (luma_shape r); cb = packed_bytes (cb_shape r); cr = packed_bytes (cr_shape r) }
 
--- An answer by its cases: `Value` is number 0 and its sizes, a refusal its number and no sizes.
-abbrev pub needed_no : Needed → ℕ
-needed_no (Value sizes) = 0
-needed_no (Refused n) = n
-
-abbrev pub needed_values : Needed → List Sizes
-needed_values (Value sizes) = sizes ∷ []
-needed_values (Refused n) = []
-
 -- ---- the numbers
 
 -- Of `readback_sizes`. 1: there is no plane, or more than three. 2: there is only luma. 4: a shape is outside the bounds. 6: a plane is shorter than its shape needs.
@@ -86,10 +73,6 @@ readback_tests r luma second third luma_room cb_room cr_room =
 
 abbrev pub readback_no : Readback → ℕ → ℕ → ℕ → ℕ → ℕ → ℕ → ℕ
 readback_no r luma second third luma_room cb_room cr_room = lowest (readback_tests r luma second third luma_room cb_room cr_room)
-
--- an output as an `ensures` has it: `.entry.now` is what stands there when the call begins
-abbrev pub Output : Type 0 → Type 0
-Output A = Both (MutBor (List ℕ)) A
 
 -- the same of what a call is lent: three planes, and for the copy three outputs
 abbrev pub sizes_no_of : {A B C : Type 0} → Readback → Slice A → Slice B → Slice C → ℕ

@@ -1,6 +1,6 @@
 -- Nothing else would satisfy a contract of `colour`.
 use mathlib.Core.Path.{refl}
-use Rattle.colour.proofs.Claims.{one_coloured}
+use Rattle.refusal.proofs.Claims.{one_answered}
 use Rattle.colour.proofs.Primaries.luma.Kinds as luma_kinds
 use Rattle.colour.proofs.Primaries.luma.Reads as luma
 use Rattle.colour.proofs.good_conversion.Kinds as good_conversion_kinds
@@ -24,7 +24,7 @@ pub converted_once : OneAnswer 0 converted_kinds.ps converted_kinds.r converted.
 converted_once κs a x y u v p q = (same p q, refl)
 
 pub to_rgb_once : OneAnswer 0 to_rgb_kinds.ps to_rgb_kinds.r to_rgb.Post
-to_rgb_once κs a x y u v p q = (one_coloured x y (same p.0 q.0) (same p.1 q.1), refl)
+to_rgb_once κs a x y u v p q = (one_answered _ x y (same p.0 q.0) (same p.1 q.1), refl)
 
 pub quantise_once : OneAnswer 0 quantise_kinds.ps quantise_kinds.r quantise.Post
 quantise_once κs a x y u v p q = (same p q, refl)

@@ -2,9 +2,8 @@
 use Prim.Native.Nat.{ℕ}
 use mathlib.Core.Path.{refl}
 use Rattle.laws.specs.Refusal.{when_done}
-use Rattle.plane.proofs.Claims.{one_sampled}
+use Rattle.refusal.proofs.Claims.{one_answered}
 use Rattle.filter.specs.Making.{sample_in}
-use Rattle.filter.proofs.Claims.{one_edged}
 use Rattle.filter.proofs.Quality.named.Kinds as named_kinds
 use Rattle.filter.proofs.Quality.named.Reads as named
 use Rattle.filter.proofs.Rows.of.Kinds as of_kinds
@@ -78,10 +77,10 @@ pub rows_good_once : OneAnswer 0 rows_good_kinds.ps rows_good_kinds.r rows_good.
 rows_good_once κs a x y u v p q = (same p q, refl)
 
 pub edge_once : OneAnswer 1 edge_kinds.ps edge_kinds.r edge.Post
-edge_once κs a x y u v p q = (one_edged x y (same p.0 q.0) (same p.1 q.1), refl)
+edge_once κs a x y u v p q = (one_answered _ x y (same p.0 q.0) (same p.1 q.1), refl)
 
 pub sample_once : OneAnswer 3 sample_kinds.ps sample_kinds.r sample.Post
 sample_once κs a x y u v p q =
     let number = same p.0 q.0 in
     let value = sample_in a.0 a.1.0.now a.1.1.0.now a.1.1.1.0.now a.1.1.1.1.0 a.1.1.1.1.1.0 in
-    (one_sampled x y number (same_by (λ (n : ℕ). when_done n value) number p.1 q.1), refl)
+    (one_answered _ x y number (same_by (λ (n : ℕ). when_done n value) number p.1 q.1), refl)

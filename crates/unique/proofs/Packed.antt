@@ -1,5 +1,6 @@
 -- Nothing else would satisfy a contract of `packed`.
 use mathlib.Core.Path.{refl}
+use Rattle.refusal.proofs.Claims.{one_done}
 use Rattle.packed.proofs.number_at.Kinds as number_at_kinds
 use Rattle.packed.proofs.number_at.Reads as number_at
 use Rattle.packed.proofs.size_in.Kinds as size_in_kinds
@@ -22,5 +23,5 @@ byte_in_once κs a x y u v p q = (same p q, refl)
 
 pub write_numbers_once : OneAnswer 2 write_numbers_kinds.ps write_numbers_kinds.r write_numbers.Post
 write_numbers_once =
-    once 2 write_numbers_kinds.ps write_numbers_kinds.r write_numbers.Post (λ κs a x y s t p q. same p.0 q.0)
+    once 2 write_numbers_kinds.ps write_numbers_kinds.r write_numbers.Post (λ κs a x y s t p q. one_done x y (same p.0 q.0))
     (λ κs a x u v p q. same p.1 q.1 and refl)

@@ -7,7 +7,7 @@ use prog.Routine.{Routine}
 use base.Logic.{SProp}
 use contract.Monad.{Fun}
 use types.Logic.{Logic}
-use Rattle.plane.proofs.Claims.{one_coded, one_sampled}
+use Rattle.refusal.proofs.Claims.{one_answered}
 use Rattle.samples.specs.contracts.Samples.new as new
 use Rattle.samples.specs.contracts.Samples.width as width
 use Rattle.samples.specs.contracts.Samples.height as height
@@ -29,10 +29,10 @@ module _ {M : Type 1} {𝓤 : Ura M} (𝓛 : Logic 𝓤) (mem : Memory → SProp
   new_once κs a g x y s t = both 𝓤 _ _ _ (λ p q i. record { plane = same p.0 q.0 i; shape = same p.1 q.1 i })
 
   pub code_once : OneAnswerBy 𝓤 code.ended (code.clauses 𝓛 mem run)
-  code_once κs a g x y s t = both 𝓤 _ _ _ (λ p q. one_coded x y (same p.0 q.0) (same p.1 q.1))
+  code_once κs a g x y s t = both 𝓤 _ _ _ (λ p q. one_answered _ x y (same p.0 q.0) (same p.1 q.1))
 
   pub at_once : OneAnswerBy 𝓤 at.ended (at.clauses 𝓛 mem run)
-  at_once κs a g x y s t = both 𝓤 _ _ _ (λ p q. one_sampled x y (same p.0 q.0) (same p.1 q.1))
+  at_once κs a g x y s t = both 𝓤 _ _ _ (λ p q. one_answered _ x y (same p.0 q.0) (same p.1 q.1))
 
 pub sample_at_once : OneAnswer 1 sample_at_kinds.ps sample_at_kinds.r sample_at.Post
-sample_at_once κs a x y u v p q = (one_sampled x y (same p.0 q.0) (same p.1 q.1), refl)
+sample_at_once κs a x y u v p q = (one_answered _ x y (same p.0 q.0) (same p.1 q.1), refl)

@@ -134,19 +134,22 @@ module _ (top : List ℕ) (t : Grid) (bottom : List ℕ) (b : Grid) (m : Matched
   odd_row r h = sym (clamped_row (woven_line top t bottom b) (t.height * 2 - 1) (r * 2 + 1) (omega arith) ∙ odd_line top t bottom b r)
 
   -- ---- a loop that writes two lines of n bytes in a turn
-  module _ (n : ℕ) (e : n ≡ line_bytes t) where
+  module _ {n height : ℕ} (e : n ≡ line_bytes t) (all : height ≡ t.height) where
     wide : (y : ℕ) → length (woven_rows top t bottom b y) ≡ n
     wide y = rows_wide y ∙ sym e
 
     -- where a turn's lines end
     pub ends :
-        (r room : ℕ) → r < t.height → woven_bytes t ≤ room →
-        (r * 2 * n + n + n ≤ room) × (r * t.stride + n ≤ length top) × (r * b.stride + n ≤ length bottom)
-    ends r room h enough =
+        {old new : List ℕ} (r : ℕ) →
+        Stacked (woven_rows top t bottom b) n (t.height * 2) old new (r * 2) → r < height → woven_bytes t ≤ length old →
+        (r * 2 * n + n + n ≤ length new) × (r * t.stride + n ≤ length top) × (r * b.stride + n ≤ length bottom)
+    ends {old} {new} r s h room =
+        let below : r < t.height = omega (arith, all) in
+        let enough : t.height * 2 * n ≤ length new = rw e (omega (arith, room, s.long)) in
         let at : r * 2 * n + n ≡ (r * 2 + 1) * n = rw (add-one, suc-mul) in (
-          rw at (row_within (r * 2 + 1) (t.height * 2) n room (omega arith) (rw e enough)),
-          rw e (top_ends r h),
-          rw e (bottom_ends r h),
+          rw at (row_within (r * 2 + 1) (t.height * 2) n (length new) (omega arith) enough),
+          rw e (top_ends r below),
+          rw e (bottom_ends r below),
         )
 
     pub no_line : {old : List ℕ} → Stacked (woven_rows top t bottom b) n (t.height * 2) old old 0
@@ -154,11 +157,12 @@ module _ (top : List ℕ) (t : Grid) (bottom : List ℕ) (b : Grid) (m : Matched
 
     pub two_lines :
         {old new newer newest : List ℕ} (r : ℕ) →
-        Stacked (woven_rows top t bottom b) n (t.height * 2) old new (r * 2) → r < t.height → woven_bytes t ≤ length old →
+        Stacked (woven_rows top t bottom b) n (t.height * 2) old new (r * 2) → r < height → woven_bytes t ≤ length old →
         newer ≡ take (r * 2 * n) new ++ (take n (drop (r * t.stride) top) ++ drop (r * 2 * n + n) new) →
         newest ≡ take (r * 2 * n + n) newer ++ (take n (drop (r * b.stride) bottom) ++ drop (r * 2 * n + n + n) newer) →
         Stacked (woven_rows top t bottom b) n (t.height * 2) old newest ((r + 1) * 2)
-    two_lines {old} {new} {newer} {newest} r s h room first second =
+    two_lines {old} {new} {newer} {newest} r s inside room first second =
+        let h : r < t.height = omega (arith, all) in
         let rows = woven_rows top t bottom b in
         let enough : t.height * 2 * n ≤ length old = rw e room in
         let upper : take n (drop (r * t.stride) top) ≡ rows (r * 2) = ap (λ (k : ℕ). take k (drop (r * t.stride) top)) e ∙ even_row r h in
@@ -171,5 +175,5 @@ module _ (top : List ℕ) (t : Grid) (bottom : List ℕ) (b : Grid) (m : Matched
 
     pub all_lines :
         {old new : List ℕ} (r : ℕ) →
-        Stacked (woven_rows top t bottom b) n (t.height * 2) old new (r * 2) → t.height ≤ r → new ≡ over (woven_plane top t bottom b) old
-    all_lines {old} {new} r s h = stack_ends wide s (omega arith) ∙ ap (λ (l : List ℕ). over l old) rows_laid
+        Stacked (woven_rows top t bottom b) n (t.height * 2) old new (r * 2) → height ≤ r → new ≡ over (woven_plane top t bottom b) old
+    all_lines {old} {new} r s h = stack_ends wide s (omega (arith, all)) ∙ ap (λ (l : List ℕ). over l old) rows_laid

@@ -7,12 +7,12 @@ use lib.Dec.{eqb}
 use lib.ListN.{length}
 use borrow.Author.Tests.{leb-true, ltb-true, eqb-true, eq-eqb}
 use Rattle.laws.proofs.Bools.{halves}
-use Rattle.laws.specs.Refusal.{rising}
+use Rattle.laws.specs.Refusal.{lowest, rising}
 use Rattle.laws.proofs.Refusal.{all_pass}
 use Rattle.plane.specs.declared.Shape.{Shape}
 use Rattle.plane.specs.Plane.{grid_shape, agree, half, chroma_agrees}
 use Rattle.plane.specs.declared.Grid.{Grid}
-use Rattle.weave.specs.Weave.{Given, good_lines, good_field, chroma_fits, whole, woven_bytes, weave_tests, weave_no, line_tests, line_no}
+use Rattle.weave.specs.Weave.{Given, good_lines, good_field, chroma_fits, whole, room_for, woven_bytes, tests_of, line_tests, line_no}
 use Rattle.weave.specs.Claims.{Matched}
 use Rattle.weave.proofs.Fields.{Alike, alike_in}
 
@@ -64,26 +64,28 @@ chroma_alike luma chroma luma' chroma' same one other =
 abbrev pub PlaneWeavable : List ℕ → Grid → List ℕ → Grid → ℕ → Type 0
 PlaneWeavable top t bottom b room = Matched top t bottom b × (woven_bytes t ≤ room)
 
-module _ (top bottom : Given) (luma_room cb_room cr_room : ℕ) (done : weave_no top bottom luma_room cb_room cr_room ≡ 0) where
+module _ (top bottom : Given) (luma_room cb_room cr_room : ℕ) where
   pub judged :
+      {long roomy : Bool} → long ≡ (whole top && whole bottom) → roomy ≡ room_for top.shape luma_room cb_room cr_room →
+      lowest (tests_of top.shape bottom.shape long roomy) ≡ 0 →
       PlaneWeavable top.luma top.shape.luma bottom.luma bottom.shape.luma luma_room
       × PlaneWeavable top.cb top.shape.cb bottom.cb bottom.shape.cb cb_room
       × PlaneWeavable top.cr top.shape.cr bottom.cr bottom.shape.cr cr_room
   unfolding rising
-  judged =
+  judged {long} {roomy} is-long is-roomy done =
       let t = top.shape in
       let b = bottom.shape in
-      let tests = all_pass (weave_tests top bottom luma_room cb_room cr_room) tt done in
+      let tests = all_pass (tests_of t b long roomy) tt done in
       let shapes = halves (good_field t) (good_field b) tests.0 in
       let good = each_of_three (good_lines t.luma) (good_lines t.cb) (good_lines t.cr) shapes.0 in
       let good' = each_of_three (good_lines b.luma) (good_lines b.cb) (good_lines b.cr) shapes.1 in
       let sizes = each_of_three (agree (grid_shape t.luma) (grid_shape b.luma)) (chroma_fits t) (chroma_fits b) tests.1.0 in
       let fits = halves (chroma_agrees (grid_shape t.luma) (grid_shape t.cb)) (chroma_agrees (grid_shape t.luma) (grid_shape t.cr)) sizes.1 in
       let fits' = halves (chroma_agrees (grid_shape b.luma) (grid_shape b.cb)) (chroma_agrees (grid_shape b.luma) (grid_shape b.cr)) sizes.2 in
-      let wholes = halves (whole top) (whole bottom) tests.1.1.0 in
+      let wholes = halves (whole top) (whole bottom) (sym is-long ∙ tests.1.1.0) in
       let long = each_of_three _ _ _ wholes.0 in
       let long' = each_of_three _ _ _ wholes.1 in
-      let rooms = each_of_three _ _ _ tests.1.1.1.0 in (
+      let rooms = each_of_three _ _ _ (sym is-roomy ∙ tests.1.1.1.0) in (
         (
           record {
             top_good = good.0;

@@ -1,8 +1,6 @@
 -- Two fields woven into a frame (docs/RULES.md, "Fields and readback", "Planes"; the source is weave.rs): the numbers, the lines, the planes.
 use Rattle.std.specs.Prelude.{ℕ, ◌+◌, ◌*◌, ◌/◌, ◌%◌, min, Bool, true, false, cond, ◌&&◌, List, [], ◌∷◌, leb, ltb, eqb, length, take, drop}
-use denote.MutBor.{MutBor}
-use denote.Triple.Both.{Both}
-use Rattle.laws.specs.Lent.{Slice}
+use Rattle.laws.specs.Lent.{Slice, Output}
 use Rattle.laws.specs.Refusal.{lowest, written}
 use Rattle.laws.specs.Rows.{laid, over}
 use Rattle.plane.specs.declared.Grid.{Grid}
@@ -93,12 +91,17 @@ weave_tests top bottom luma_room cb_room cr_room =
     ∷ (7, room_for top.shape luma_room cb_room cr_room)
     ∷ []
 
+-- the same, by what is known of the bytes that are lent
+abbrev pub tests_of : Field → Field → Bool → Bool → List (ℕ × Bool)
+tests_of top bottom long roomy =
+    (4, good_field top && good_field bottom)
+    ∷ (5, fields_agree top bottom && chroma_fits top && chroma_fits bottom)
+    ∷ (6, long)
+    ∷ (7, roomy)
+    ∷ []
+
 abbrev pub weave_no : Given → Given → ℕ → ℕ → ℕ → ℕ
 weave_no top bottom luma_room cb_room cr_room = lowest (weave_tests top bottom luma_room cb_room cr_room)
-
--- an output as an `ensures` has it: `.entry.now` is what stands there when the call begins
-abbrev pub Output : Type 0 → Type 0
-Output A = Both (MutBor (List ℕ)) A
 
 -- the same of three outputs that are lent
 abbrev pub weave_no_of : {A B C : Type 0} → Given → Given → Output A → Output B → Output C → ℕ

@@ -13,10 +13,13 @@ use Rattle.field.specs.declared.Parity.{Parity}
 use Rattle.weave.specs.declared.Field.{Field}
 use Rattle.weave.specs.Weave.{fields_agree}
 use Rattle.weave.proofs.Fields.{alike_in}
-use Rattle.weaver.specs.declared.Time.{Time}
+use lib.IntN.{ℤ}
+use Rattle.std.proofs.Common.{Option, Ok, Err}
+use Rattle.refusal.proofs.Claims.{one_answered}
 use Rattle.weaver.specs.declared.Weaver.{Weaver}
+use Rattle.weaver.specs.declared.Paired.{Paired}
 use Rattle.weaver.specs.declared.Paired.TheVariants as paired
-use Rattle.weaver.specs.Weaver.{kept_field, woven_by, opposite, fits, push_tests, picture_luma, picture_cb, picture_cr, push_out}
+use Rattle.weaver.specs.Weaver.{kept_field, woven_by, opposite, fits, push_tests, times_of, picture_luma, picture_cb, picture_cr, push_out}
 use Rattle.weaver.specs.History.{Sent, State, number_in, after, Waiting, none, waits, mates, mate_of, waiting_after, taken}
 use Rattle.weaver.specs.Claims.{PushSays, OnePaired, RefusedLeaves, RefusalKnown, NoPicture, Picture, Gives, PairsWoven}
 use Rattle.weaver.proofs.Packed.{Sound}
@@ -30,25 +33,25 @@ pub push_says : PushSays
 unfolding rising
 push_says w g parity store luma_room cb_room cr_room = lowest_says (push_tests w g parity store luma_room cb_room cr_room) tt
 
-abbrev first_list : List (List Time) → List Time
+abbrev first_list : List (List (Option ℤ)) → List (Option ℤ)
 first_list [] = []
 first_list (times ∷ rest) = times
 
-abbrev time_in_lem : Time → List Time → Time
-time_in_lem other [] = other
-time_in_lem other (time ∷ rest) = time
+-- the answer that comes with such times
+abbrev pair_by : List (Option ℤ) → Paired
+pair_by [] = paired.Waits
+pair_by (time ∷ rest) = paired.Picture time
+
+by_times : (pair : Paired) → pair_by (times_of pair) ≡ pair
+by_times paired.Waits = refl
+by_times (paired.Picture at) = refl
 
 pub one_paired : OnePaired
-one_paired paired.Waits paired.Waits number values = refl
-one_paired paired.Waits (paired.Picture at) number values = absurd (nil≢cons (ap first_list values))
-one_paired paired.Waits (paired.Refused n) number values = absurd (nil≢cons (sym values))
-one_paired (paired.Picture at) paired.Waits number values = absurd (nil≢cons (sym (ap first_list values)))
-one_paired (paired.Picture at) (paired.Picture other) number values =
-    ap (λ (time : Time). paired.Picture time) (ap (λ (times : List (List Time)). time_in_lem at (first_list times)) values)
-one_paired (paired.Picture at) (paired.Refused n) number values = absurd (nil≢cons (sym values))
-one_paired (paired.Refused n) paired.Waits number values = absurd (nil≢cons values)
-one_paired (paired.Refused n) (paired.Picture at) number values = absurd (nil≢cons values)
-one_paired (paired.Refused n) (paired.Refused m) number values = ap (λ (k : ℕ). paired.Refused k) number
+one_paired (Ok pair) (Ok other) number values =
+    ap (λ (p : Paired). Ok p) (sym (by_times pair) ∙ ap (λ (l : List (List (Option ℤ))). pair_by (first_list l)) values ∙ by_times other)
+one_paired (Ok pair) (Err r) number values = absurd (nil≢cons (sym values))
+one_paired (Err r) (Ok pair) number values = absurd (nil≢cons values)
+one_paired (Err r) (Err other) number values = one_answered _ (Err r) (Err other) number refl
 
 pub refused_leaves : RefusedLeaves
 refused_leaves = reached.refused_leaves

@@ -18,10 +18,21 @@ use Rattle.weave.specs.declared.Field.{Field}
 use Rattle.weave.specs.Weave.{Given, given_of, good_lines, good_field, chroma_fits, fields_agree, whole, room_for, woven_bytes}
 use Rattle.weave.proofs.Fields.{bounded}
 use Rattle.weave.proofs.Judged.{each_of_three, Half, half_of}
+use Rattle.weaver.specs.declared.Size.{Size}
 use Rattle.weaver.specs.declared.Weaver.{Weaver}
 use Rattle.weaver.specs.Weaver.{packed_lines, packed_shape, luma_bytes_of, chroma_bytes, field_bytes, kept_field, kept_bytes, opposite, fits}
 use Rattle.weaver.specs.Inner.{tests_of, PackableField, Weavable}
 use Rattle.weaver.proofs.Packed.{packed_good, packed_whole, Sound}
+
+-- what a size comes to
+abbrev pub luma_size : Size → ℕ
+luma_size s = luma_bytes_of s.width s.height s.depth
+
+abbrev pub chroma_size : Size → ℕ
+chroma_size s = chroma_bytes s.width s.height s.depth
+
+abbrev pub shape_of : Size → Field
+shape_of s = packed_shape s.width s.height s.depth
 
 pub sound : (g : Given) → good_field g.shape ≡ true → chroma_fits g.shape ≡ true → whole g ≡ true → Sound g
 sound g good halved long =

@@ -1,7 +1,6 @@
 -- Laws that several proofs cite, and the claims.
 pub mod Packed
 pub mod Judged
-pub mod Calls
 pub mod Kept
 pub mod Reached
 pub mod Claims

@@ -64,7 +64,8 @@ module _ (bytes : List ℕ) (l : Grid) (good : good_lines l ≡ true) (long : pl
       ∙ clamped_row (line_in bytes l) (l.height - 1) y (omega arith)
 
 -- ---- a loop that packs a row of n bytes in a turn
-module _ (plane : List ℕ) (l : Grid) (part : ℕ) (p : Packable part (length plane) l) (n : ℕ) (e : n ≡ l.width * sample_bytes l.depth) where
+module _ (plane : List ℕ) (l : Grid) (part : ℕ) (p : Packable part (length plane) l) {n height : ℕ}
+    (e : n ≡ l.width * sample_bytes l.depth) (all : height ≡ l.height) where
   wide : (y : ℕ) → length (packed_rows plane l y) ≡ n
   wide y = rows_wide plane l p.good p.long y ∙ sym e
 
@@ -72,24 +73,29 @@ module _ (plane : List ℕ) (l : Grid) (part : ℕ) (p : Packable part (length p
   roomy = rw e (le_of_eq (sym p.exact))
 
   -- where a turn's row ends
-  pub turn_ends : (y : ℕ) → y < l.height → (y * n + n ≤ part) × (y * l.stride + n ≤ length plane)
-  turn_ends y h = (row_within y l.height n part h roomy, rw e (line_ends_lem plane l p.good p.long y h))
+  pub turn_ends :
+      {old new : List ℕ} (y : ℕ) →
+      Stacked (packed_rows plane l) n l.height old new y → y < height → length old ≡ part → (y * n + n ≤ length new) × (y * l.stride + n ≤ length plane)
+  turn_ends y s inside same =
+      let h : y < l.height = omega (arith, all) in
+      (omega (arith, row_within y l.height n part h roomy, s.long), rw e (line_ends_lem plane l p.good p.long y h))
 
   pub no_row : {old : List ℕ} → Stacked (packed_rows plane l) n l.height old old 0
   no_row = stack_starts wide
 
   pub one_row :
-      {old new row : List ℕ} (y : ℕ) → Stacked (packed_rows plane l) n l.height old new y → y < l.height → length old ≡ part
-      → row ≡ take n (drop (y * l.stride) plane)
-      → Stacked (packed_rows plane l) n l.height old (take (y * n) new ++ (row ++ drop (y * n + n - y * n) (drop (y * n) new))) (y + 1)
-  one_row y s h same line =
+      {old new row : List ℕ} (y : ℕ) →
+      Stacked (packed_rows plane l) n l.height old new y → y < height → length old ≡ part → row ≡ take n (drop (y * l.stride) plane) →
+      Stacked (packed_rows plane l) n l.height old (take (y * n) new ++ (row ++ drop (y * n + n - y * n) (drop (y * n) new))) (y + 1)
+  one_row y s inside same line =
+      let h : y < l.height = omega (arith, all) in
       stacks wide s h (rw same roomy) refl
       (line ∙ ap (λ (k : ℕ). take k (drop (y * l.stride) plane)) e ∙ row_is plane l p.good p.long y h)
 
   pub all_rows :
-      {old new : List ℕ} (y : ℕ) → Stacked (packed_rows plane l) n l.height old new y → l.height ≤ y → length old ≡ part → new ≡ packed_plane plane l
+      {old new : List ℕ} (y : ℕ) → Stacked (packed_rows plane l) n l.height old new y → height ≤ y → length old ≡ part → new ≡ packed_plane plane l
   all_rows {old} {new} y s h same =
-      stack_fills wide s h (same ∙ p.exact ∙ ap (λ (k : ℕ). l.height * k) (sym e)) ∙ rows_laid plane l p.good p.long
+      stack_fills wide s (omega (arith, all)) (same ∙ p.exact ∙ ap (λ (k : ℕ). l.height * k) (sym e)) ∙ rows_laid plane l p.good p.long
 
 -- a plane within the bounds is within them packed
 pub packed_good : (l : Grid) → good_lines l ≡ true → good_lines (packed_lines l.width l.height l.depth) ≡ true

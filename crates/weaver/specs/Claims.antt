@@ -1,13 +1,15 @@
 -- What is claimed of the weaver over calls. proofs/Claims.antt proves each claim under its name in small letters. No claim supposes anything of a
 -- history: calls that are refused may stand anywhere, and `taken` leaves them out.
-use Rattle.std.specs.Prelude.{ℕ, ◌≡◌, List, [], ◌∷◌, length}
+use Rattle.std.specs.Prelude.{ℕ, ◌≡◌, Result, List, [], ◌∷◌, length}
 use Rattle.laws.specs.Refusal.{Says}
 use Rattle.laws.specs.Rows.{over}
+use Rattle.refusal.specs.declared.Refusal.{Refusal}
+use Rattle.refusal.specs.Refusal.{no_of}
 use Rattle.field.specs.declared.Parity.{Parity}
 use Rattle.weave.specs.Weave.{Given}
 use Rattle.weaver.specs.declared.Weaver.{Weaver}
 use Rattle.weaver.specs.declared.Paired.{Paired}
-use Rattle.weaver.specs.Weaver.{woven_by, push_tests, picture_times, picture_luma, picture_cb, picture_cr, push_out, paired_no, paired_values}
+use Rattle.weaver.specs.Weaver.{woven_by, push_tests, picture_times, picture_luma, picture_cb, picture_cr, push_out, paired_values}
 use Rattle.weaver.specs.History.{Sent, Call, push, State, number_in, next, after, Waiting, none, waits, mate_of, waiting_after, refusal_of, taken}
 
 -- 0 exactly when no number applies, and otherwise the lowest that does
@@ -17,7 +19,7 @@ PushSays =
 
 -- Answers with equal number and values are equal, so the promise of `push` settles its answer.
 abbrev pub OnePaired : Type 0
-OnePaired = (a b : Paired) → paired_no a ≡ paired_no b → paired_values a ≡ paired_values b → a ≡ b
+OnePaired = (a b : Result Paired Refusal) → no_of a ≡ no_of b → paired_values a ≡ paired_values b → a ≡ b
 
 -- A refused field leaves any weaver and any store as they were.
 abbrev pub RefusedLeaves : Type 0

@@ -1,10 +1,9 @@
 -- Histories of calls on an empty weaver (docs/RULES.md, "Fields and readback"). First what the calls leave, with the store lent back as it was left;
 -- then the same from the fields alone: who waits, who is thrown away, who is paired. Lists of calls are newest first.
-use Rattle.std.specs.Prelude.{ℕ, Bool, cond, ◌&&◌, List, [], ◌∷◌, leb, eqb, length}
+use Rattle.std.specs.Prelude.{ℕ, Bool, cond, ◌&&◌, ℤ, Option, List, [], ◌∷◌, leb, eqb, length}
 use Rattle.laws.specs.Refusal.{lowest}
 use Rattle.field.specs.declared.Parity.{Parity}
 use Rattle.weave.specs.Weave.{Given, fields_agree, good_field, chroma_fits, whole, room_for}
-use Rattle.weaver.specs.declared.Time.{Time}
 use Rattle.weaver.specs.declared.Weaver.{Weaver}
 use Rattle.weaver.specs.Weaver.{empty_weaver, opposite, field_bytes, push_no, push_weaver, push_store}
 
@@ -12,7 +11,7 @@ use Rattle.weaver.specs.Weaver.{empty_weaver, opposite, field_bytes, push_no, pu
 pub record Sent : Type 0 where
   pub field : Given
   pub parity : Parity
-  pub time : Time
+  pub time : Option ℤ
   pub luma_room : ℕ
   pub cb_room : ℕ
   pub cr_room : ℕ

@@ -2,12 +2,23 @@
 use Rattle.std.specs.Prelude.{ℕ, ◌≤◌, ◌≡◌, Bool, true, cond, ◌&&◌, List, [], ◌∷◌, leb, length}
 use Rattle.std.specs.Borrow.{Bor}
 use denote.MutBor.{MutBor}
-use Rattle.plane.specs.Plane.{grid_shape, plane_bytes}
+use Rattle.plane.specs.Plane.{grid_shape, plane_bytes, half}
 use Rattle.plane.specs.declared.Grid.{Grid}
 use Rattle.weave.specs.declared.Field.{Field}
 use Rattle.weave.specs.Weave.{Given, given_of, good_lines, good_field, chroma_fits, whole_field, whole, room_for, weave_no}
+use Rattle.weaver.specs.declared.Size.{Size}
 use Rattle.weaver.specs.declared.Weaver.{Weaver}
 use Rattle.weaver.specs.Weaver.{luma_bytes_of, field_bytes, kept_bytes}
+
+-- the size of a plane, of a chroma plane beside it, and of the field that is kept
+abbrev pub size_of : Grid → Size
+size_of l = record { width = l.width; height = l.height; depth = l.depth }
+
+abbrev pub half_size : Size → Size
+half_size s = record { width = half s.width; height = half s.height; depth = s.depth }
+
+abbrev pub kept_size : Weaver → Size
+kept_size w = record { width = w.width; height = w.height; depth = w.depth }
 
 -- the tests of a push, by whether it gives a picture and by the lengths of the planes
 abbrev pub tests_of : Weaver → Bool → Field → ℕ → ℕ → ℕ → ℕ → ℕ → ℕ → ℕ → List (ℕ × Bool)
@@ -43,6 +54,9 @@ pub record Weavable (first second : Given) (luma_room cb_room cr_room : ℕ) : T
   pub as_top : weave_no first second luma_room cb_room cr_room ≡ 0
   pub as_bottom : weave_no second first luma_room cb_room cr_room ≡ 0
 
--- into these outputs
+-- two fields that are not refused, of which the first is the top one, and two that can be woven, into these outputs
+abbrev pub Weaves : Given → Given → MutBor (List ℕ) → MutBor (List ℕ) → MutBor (List ℕ) → Type 0
+Weaves top bottom luma cb cr = weave_no top bottom (length luma.now) (length cb.now) (length cr.now) ≡ 0
+
 abbrev pub WeavableInto : Given → Given → MutBor (List ℕ) → MutBor (List ℕ) → MutBor (List ℕ) → Type 0
 WeavableInto first second luma cb cr = Weavable first second (length luma.now) (length cb.now) (length cr.now)

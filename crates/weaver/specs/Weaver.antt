@@ -1,17 +1,17 @@
 -- The field that waits for its mate (docs/RULES.md, "Fields and readback", "Forms that must change"; the source is `Weaver` in weave.rs): what each
 -- call gives, on every value that the struct can hold.
-use Rattle.std.specs.Prelude.{ℕ, ◌+◌, ◌*◌, Bool, true, false, cond, not, ◌&&◌, List, [], ◌∷◌, ◌++◌, leb, eqb, length, take, drop}
+use Rattle.std.specs.Prelude.{ℕ, ◌+◌, ◌*◌, Bool, true, false, cond, not, ◌&&◌, ℤ, Option, None, Result, Ok, Err, List, [], ◌∷◌, ◌++◌, leb, eqb, length, take, drop}
+use Rattle.laws.specs.Lent.{Output}
 use Rattle.laws.specs.Refusal.{lowest, written}
 use Rattle.laws.specs.Rows.{laid, over}
+use Rattle.refusal.specs.declared.Refusal.{Refusal}
 use Rattle.field.specs.declared.Parity.{Parity}
 use Rattle.field.specs.declared.Parity.TheVariants.{Top, Bottom}
 use Rattle.field.specs.Field.{first_row_of}
 use Rattle.plane.specs.Plane.{sample_bytes, half}
 use Rattle.plane.specs.declared.Grid.{Grid}
 use Rattle.weave.specs.declared.Field.{Field}
-use Rattle.weave.specs.Weave.{Given, given_of, line_in, good_field, chroma_fits, whole, room_for, Output, woven_plane}
-use Rattle.weaver.specs.declared.Time.{Time}
-use Rattle.weaver.specs.declared.Time.TheVariants as time
+use Rattle.weave.specs.Weave.{Given, given_of, line_in, good_field, chroma_fits, whole, room_for, woven_plane}
 use Rattle.weaver.specs.declared.Weaver.{Weaver}
 use Rattle.weaver.specs.declared.Paired.{Paired}
 use Rattle.weaver.specs.declared.Paired.TheVariants as paired
@@ -50,9 +50,9 @@ packed_field g =
 -- ---- the weaver
 
 abbrev pub empty_weaver : Weaver
-empty_weaver = record { held = false; width = 0; height = 0; depth = 0; parity = Top; time = time.Absent }
+empty_weaver = record { held = false; width = 0; height = 0; depth = 0; parity = Top; time = None }
 
-abbrev pub waiting_for : Field → Parity → Time → Weaver
+abbrev pub waiting_for : Field → Parity → Option ℤ → Weaver
 waiting_for shape parity at =
     record { held = true; width = shape.luma.width; height = shape.luma.height; depth = shape.luma.depth; parity = parity; time = at }
 
@@ -100,23 +100,20 @@ abbrev pub push_no_of : {A B C D : Type 0} → Weaver → Given → Parity → O
 push_no_of w g parity store luma cb cr =
     push_no w g parity (length store.entry.now) (length luma.entry.now) (length cb.entry.now) (length cr.entry.now)
 
--- An answer by its cases: a picture is number 0 and the earlier field's time, a field that waits number 0 and no time, a refusal its number and no
--- value.
-abbrev pub paired_no : Paired → ℕ
-paired_no paired.Waits = 0
-paired_no (paired.Picture at) = 0
-paired_no (paired.Refused n) = n
+-- The value of an answer as a list of times: a picture comes with the earlier field's, a field that waits with none. A refusal has no value.
+abbrev pub times_of : Paired → List (Option ℤ)
+times_of paired.Waits = []
+times_of (paired.Picture at) = at ∷ []
 
-abbrev pub paired_values : Paired → List (List Time)
-paired_values paired.Waits = [] ∷ []
-paired_values (paired.Picture at) = (at ∷ []) ∷ []
-paired_values (paired.Refused n) = []
+abbrev pub paired_values : Result Paired Refusal → List (List (Option ℤ))
+paired_values (Ok pair) = times_of pair ∷ []
+paired_values (Err refused) = []
 
 -- the time that comes with the picture, if there is a picture
-abbrev pub picture_times : Weaver → Field → Parity → List Time
+abbrev pub picture_times : Weaver → Field → Parity → List (Option ℤ)
 picture_times w shape parity = cond (fits w shape parity) (w.time ∷ []) []
 
-abbrev pub push_weaver : ℕ → Weaver → Field → Parity → Time → Weaver
+abbrev pub push_weaver : ℕ → Weaver → Field → Parity → Option ℤ → Weaver
 push_weaver number w shape parity at = written number (cond (fits w shape parity) empty_weaver (waiting_for shape parity at)) w
 
 abbrev pub push_store : ℕ → Weaver → Given → Parity → List ℕ → List ℕ

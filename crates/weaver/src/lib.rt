@@ -2,7 +2,7 @@
 // SPDX-License-Identifier: Apache-2.0
 // Carried over from core/src/decode/weave.rs (`Weaver`), and changed: the weaver goes in and comes back
 // by value, the field that waits is packed in a lent store, the picture goes to lent outputs, and what
-// cannot be taken is refused by number.
+// cannot be taken is refused.
 //
 // Fields in the order they come, paired into frames.
 #![tactic(auto)]
@@ -10,129 +10,175 @@
 ghost use Rattle.std.specs.Prelude.{◌≡◌, cond, ◌++◌, ◌+◌, ◌*◌, ◌≤◌, leb, length, take, drop};
 ghost use Rattle.laws.specs.Refusal.{lowest, when_done};
 ghost use Rattle.laws.specs.Rows.{over};
+ghost use Rattle.refusal.specs.Refusal.{no_of};
 ghost use Rattle.plane.specs.Plane.{sample_bytes};
-ghost use Rattle.weave.specs.Weave.{lent_field, room_for};
-ghost use Rattle.weaver.specs.Weaver.{packed_lines, packed_shape, packed_plane, packed_field, luma_bytes_of, chroma_bytes, field_bytes, empty_weaver, kept_field, kept_bytes, opposite, fits, woven_by, push_no_of, picture_times, picture_luma, picture_cb, picture_cr, push_weaver, push_store, push_out, paired_no, paired_values};
-ghost use Rattle.weaver.specs.Inner.{tests_of, found_field, Packable, PackableField, WeavableInto};
+ghost use Rattle.weave.specs.Weave.{lent_field, whole_field, room_for, woven_plane};
+ghost use Rattle.weaver.specs.Weaver.{packed_lines, packed_shape, packed_plane, packed_field, luma_bytes_of, chroma_bytes, field_bytes, empty_weaver, kept_field, kept_bytes, fits, woven_by, push_no_of, picture_times, picture_luma, picture_cb, picture_cr, push_weaver, push_store, push_out, paired_values};
+ghost use Rattle.weaver.specs.Inner.{size_of, half_size, kept_size, tests_of, found_field, Weaves, Packable, PackableField, WeavableInto};
 
 use field::Parity;
 use plane::Grid;
+use refusal::Refusal;
 use weave::Field;
 
-// A field's time, if it has one.
-#[derive(Clone, Copy)]
-pub enum Time {
-    Absent,
-    At(i64),
-}
-
-// The shape of the field that the store keeps, its parity and time. Where none is held, the rest says
-// nothing.
-#[derive(Clone, Copy)]
+// The shape of the field that the store keeps, its parity and time, if it has one. Where none is held,
+// the rest says nothing.
+#[derive(Clone, Copy, Debug, PartialEq, Eq)]
 pub struct Weaver {
     pub held: bool,
     pub width: u16,
     pub height: u16,
     pub depth: u8,
-    pub parity: field::Parity,
-    pub time: Time,
+    pub parity: Parity,
+    pub time: Option<i64>,
 }
 
-#[derive(Clone, Copy)]
+#[derive(Clone, Copy, Debug, PartialEq, Eq)]
 pub enum Paired {
     // The field was kept, and waits for its mate.
     Waits,
     // The outputs have the picture; the time is that of the earlier field.
-    Picture(Time),
-    Refused(u8),
+    Picture(Option<i64>),
 }
 
-#[derive(Clone, Copy)]
+#[derive(Clone, Copy, Debug, PartialEq, Eq)]
 pub struct Pushed {
     pub weaver: Weaver,
-    pub answer: Paired,
+    pub answer: Result<Paired, Refusal>,
 }
 
 // ---- sizes
 
-// The bytes of a packed row.
-fn row_bytes(width: u16, depth: u8) -> u32
-    ensures { (result ≡ width * sample_bytes depth) × (result ≤ 131070) }
-{
-    let wide = width as u32;
-    if depth <= 8 { wide } else { wide * 2 }
+// The size of a plane of a field.
+#[derive(Clone, Copy)]
+struct Size {
+    width: u16,
+    height: u16,
+    depth: u8,
 }
 
-fn luma_bytes(width: u16, height: u16, depth: u8) -> usize
-    ensures { (result ≡ luma_bytes_of width height depth) × (result ≤ 8589672450) }
-{
-    (height as usize) * (row_bytes(width, depth) as usize)
-}
+impl Size {
+    fn of(l: Grid) -> Size
+        ensures { result ≡ size_of l }
+    {
+        Size {
+            width: l.width,
+            height: l.height,
+            depth: l.depth,
+        }
+    }
 
-fn chroma_bytes(width: u16, height: u16, depth: u8) -> usize
-    ensures { (result ≡ chroma_bytes width height depth) × (result ≤ 8589672450) }
-{
-    luma_bytes(plane::half_of(width), plane::half_of(height), depth)
-}
+    fn half(self) -> Size
+        ensures { result ≡ half_size self }
+    {
+        Size {
+            width: plane::half_of(self.width),
+            height: plane::half_of(self.height),
+            ..self
+        }
+    }
 
-fn field_bytes(width: u16, height: u16, depth: u8) -> usize
-    ensures { result ≡ field_bytes width height depth }
-{
-    let chroma = chroma_bytes(width, height, depth);
-    luma_bytes(width, height, depth) + (chroma + chroma)
-}
+    // The bytes of a packed row.
+    fn row_bytes(self) -> u32
+        ensures { (result ≡ self.width * sample_bytes self.depth) × (result ≤ 131070) }
+    {
+        let row = usize::from(self.width) * plane::sample_bytes(u32::from(self.depth));
+        row as u32
+    }
 
-fn packed_lines(width: u16, height: u16, depth: u8) -> Grid
-    ensures { result ≡ packed_lines width height depth }
-{
-    Grid {
-        width: width,
-        height: height,
-        depth: depth,
-        stride: row_bytes(width, depth),
+    fn plane_bytes(self) -> usize
+        ensures { (result ≡ luma_bytes_of self.width self.height self.depth) × (result ≤ 8589672450) }
+    {
+        usize::from(self.height) * (self.row_bytes() as usize)
+    }
+
+    // Of the chroma planes beside a luma plane of this size.
+    fn chroma_bytes(self) -> usize
+        ensures { (result ≡ chroma_bytes self.width self.height self.depth) × (result ≤ 8589672450) }
+    {
+        self.half().plane_bytes()
+    }
+
+    fn field_bytes(self) -> usize
+        ensures { result ≡ field_bytes self.width self.height self.depth }
+    {
+        self.plane_bytes() + (self.chroma_bytes() + self.chroma_bytes())
+    }
+
+    fn lines(self) -> Grid
+        ensures { result ≡ packed_lines self.width self.height self.depth }
+    {
+        Grid {
+            width: self.width,
+            height: self.height,
+            depth: self.depth,
+            stride: self.row_bytes(),
+        }
+    }
+
+    // The shape of a field that the store keeps.
+    fn shape(self) -> Field
+        ensures { result ≡ packed_shape self.width self.height self.depth }
+    {
+        Field {
+            luma: self.lines(),
+            cb: self.half().lines(),
+            cr: self.half().lines(),
+        }
     }
 }
 
-// The shape of a field that the store keeps.
-fn packed_shape(width: u16, height: u16, depth: u8) -> Field
-    ensures { result ≡ packed_shape width height depth }
-{
-    let luma = packed_lines(width, height, depth);
-    let chroma = packed_lines(plane::half_of(width), plane::half_of(height), depth);
-    Field {
-        luma: luma,
-        cb: chroma,
-        cr: chroma,
+// A field as it is lent: its shape, and the bytes of its planes.
+#[derive(Clone, Copy)]
+struct Lent<'a> {
+    shape: Field,
+    luma: &'a [u8],
+    cb: &'a [u8],
+    cr: &'a [u8],
+}
+
+impl<'a> Lent<'a> {
+    fn is_whole(self) -> bool
+        ensures { result ≡ whole_field self.entry.shape (length self.entry.luma.now) (length self.entry.cb.now) (length self.entry.cr.now) }
+    {
+        self.shape
+            .is_whole(self.luma.len(), self.cb.len(), self.cr.len())
     }
 }
 
 // ---- tests
 
-fn is_opposite(a: Parity, b: Parity) -> bool
-    ensures { result ≡ opposite a b }
-{
-    a.first_row() != b.first_row()
-}
+impl Weaver {
+    // Of the field that waits.
+    fn size(self) -> Size
+        ensures { result ≡ kept_size self }
+    {
+        Size {
+            width: self.width,
+            height: self.height,
+            depth: self.depth,
+        }
+    }
 
-// Whether a field gives a picture with the one that waits.
-fn fits_kept(kept: Weaver, shape: Field, parity: Parity) -> bool
-    ensures { result ≡ fits kept shape parity }
-{
-    let waiting = kept.parity;
-    kept.held
-        & (is_opposite(waiting, parity)
-            & (kept.width == shape.luma.width)
-            & (kept.height == shape.luma.height)
-            & (kept.depth == shape.luma.depth))
-}
+    // Whether a field gives a picture with the one that waits.
+    fn fits(self, shape: Field, parity: Parity) -> bool
+        ensures { result ≡ fits self shape parity }
+    {
+        self.held
+            & ((self.parity != parity)
+                & (self.width == shape.luma.width)
+                & (self.height == shape.luma.height)
+                & (self.depth == shape.luma.depth))
+    }
 
-fn kept_bytes(kept: Weaver) -> usize
-    ensures { result ≡ kept_bytes kept }
-{
-    if kept.held {
-        field_bytes(kept.width, kept.height, kept.depth)
-    } else {
-        0
+    fn kept_bytes(self) -> usize
+        ensures { result ≡ kept_bytes self }
+    {
+        if self.held {
+            self.size().field_bytes()
+        } else {
+            0
+        }
     }
 }
 
@@ -141,45 +187,30 @@ fn room_after(picture: bool, shape: Field, store: usize, luma: usize, cb: usize,
     ensures { result ≡ cond picture (room_for shape luma cb cr) (leb (field_bytes shape.luma.width shape.luma.height shape.luma.depth) store) }
 {
     if picture {
-        weave::room_for(shape, luma, cb, cr)
+        shape.has_room(luma, cb, cr)
     } else {
-        field_bytes(shape.luma.width, shape.luma.height, shape.luma.depth) <= store
+        Size::of(shape.luma).field_bytes() <= store
     }
 }
 
-// The number of `push`: 4, 5, 6 or 7.
-fn push_no(
+// Whether a field can be taken, from the lengths of its planes and of what is lent for writing. Numbers
+// 4 to 7.
+#[tactic(auto, unfolding(laws::specs::Refusal::lowest))]
+fn takeable(
     kept: Weaver,
     picture: bool,
-    shape: Field,
-    luma: usize,
-    cb: usize,
-    cr: usize,
+    field: Lent<'_>,
     store: usize,
     out_luma: usize,
     out_cb: usize,
     out_cr: usize,
-) -> u8
-    ensures { result ≡ lowest (tests_of kept picture shape luma cb cr store out_luma out_cb out_cr) }
+) -> Result<(), Refusal>
+    ensures { no_of result ≡ lowest (tests_of kept picture field.entry.shape (length field.entry.luma.now) (length field.entry.cb.now) (length field.entry.cr.now) store out_luma out_cb out_cr) }
 {
-    let good = weave::good_field(shape);
-    let halved = weave::chroma_fits(shape);
-    let whole = weave::whole_field(shape, luma, cb, cr);
-    let held = kept_bytes(kept) <= store;
-    let room = room_after(picture, shape, store, out_luma, out_cb, out_cr);
-    refusal::test(
-        refusal::SHAPE,
-        good,
-        refusal::test(
-            refusal::DIFFER,
-            halved,
-            refusal::test(
-                refusal::SHORT_INPUT,
-                whole & held,
-                refusal::test(refusal::SHORT_OUTPUT, room, refusal::DONE),
-            ),
-        ),
-    )
+    Refusal::Shape.unless(field.shape.is_good())?;
+    Refusal::Differ.unless(field.shape.chroma_fits())?;
+    Refusal::ShortInput.unless(field.is_whole() & (kept.kept_bytes() <= store))?;
+    Refusal::ShortOutput.unless(room_after(picture, field.shape, store, out_luma, out_cb, out_cr))
 }
 
 // ---- packing
@@ -189,13 +220,11 @@ fn pack_plane(part: &mut [u8], plane: &[u8], l: Grid)
     requires { Packable (length part.old) (length plane.now) l }
     ensures { part.new ≡ packed_plane plane.now l }
 {
-    let n = row_bytes(l.width, l.depth) as usize;
-    let mut y = 0;
-    while y < l.height as usize {
+    let n = Size::of(l).row_bytes() as usize;
+    for y in 0..usize::from(l.height) {
         let at = y * n;
         let from = y * (l.stride as usize);
         copy::copy_front(&mut part[at..at + n], &plane[from..from + n]);
-        y += 1;
     }
 }
 
@@ -208,70 +237,65 @@ fn pack_part(store: &mut [u8], at: usize, n: usize, plane: &[u8], l: Grid)
 }
 
 // The three planes one behind another at the front of the store.
-fn pack_field(store: &mut [u8], shape: Field, luma: &[u8], cb: &[u8], cr: &[u8])
-    requires { PackableField (length store.old) (found_field shape luma cb cr) }
-    ensures { store.new ≡ over (packed_field (lent_field shape luma cb cr)) store.old }
+fn pack_field(store: &mut [u8], field: Lent<'_>)
+    requires { PackableField (length store.old) (found_field field.shape field.luma field.cb field.cr) }
+    ensures { store.new ≡ over (packed_field (found_field field.entry.shape field.entry.luma field.entry.cb field.entry.cr)) store.old }
 {
-    let a = luma_bytes(shape.luma.width, shape.luma.height, shape.luma.depth);
-    let b = chroma_bytes(shape.luma.width, shape.luma.height, shape.luma.depth);
-    pack_part(store, 0, a, luma, shape.luma);
-    pack_part(store, a, b, cb, shape.cb);
-    pack_part(store, a + b, b, cr, shape.cr);
+    let size = Size::of(field.shape.luma);
+    let a = size.plane_bytes();
+    let b = size.chroma_bytes();
+    pack_part(store, 0, a, field.luma, field.shape.luma);
+    pack_part(store, a, b, field.cb, field.shape.cb);
+    pack_part(store, a + b, b, field.cr, field.shape.cr);
 }
 
 // ---- pictures
 
-// Weaves the field that waited, of this parity, with the new one. Nothing is judged here any more.
-fn weave_pair(
-    parity: Parity,
-    first: Field,
-    first_luma: &[u8],
-    first_cb: &[u8],
-    first_cr: &[u8],
-    second: Field,
-    second_luma: &[u8],
-    second_cb: &[u8],
-    second_cr: &[u8],
+// Weaves two fields. They were judged before, and are not refused.
+fn weave_lent(
+    top: Lent<'_>,
+    bottom: Lent<'_>,
     out_luma: &mut [u8],
     out_cb: &mut [u8],
     out_cr: &mut [u8],
 )
-    requires { WeavableInto (found_field first first_luma first_cb first_cr) (found_field second second_luma second_cb second_cr) out_luma out_cb out_cr }
-    ensures out_luma_after { out_luma.new ≡ over (woven_by parity first_luma.now first.luma second_luma.now second.luma) out_luma.old }
-    ensures out_cb_after { out_cb.new ≡ over (woven_by parity first_cb.now first.cb second_cb.now second.cb) out_cb.old }
-    ensures out_cr_after { out_cr.new ≡ over (woven_by parity first_cr.now first.cr second_cr.now second.cr) out_cr.old }
+    requires { Weaves (found_field top.shape top.luma top.cb top.cr) (found_field bottom.shape bottom.luma bottom.cb bottom.cr) out_luma out_cb out_cr }
+    ensures out_luma_after { out_luma.new ≡ over (woven_plane top.entry.luma.now top.entry.shape.luma bottom.entry.luma.now bottom.entry.shape.luma) out_luma.old }
+    ensures out_cb_after { out_cb.new ≡ over (woven_plane top.entry.cb.now top.entry.shape.cb bottom.entry.cb.now bottom.entry.shape.cb) out_cb.old }
+    ensures out_cr_after { out_cr.new ≡ over (woven_plane top.entry.cr.now top.entry.shape.cr bottom.entry.cr.now bottom.entry.shape.cr) out_cr.old }
+{
+    let _ = weave::weave(
+        out_luma,
+        out_cb,
+        out_cr,
+        top.shape,
+        top.luma,
+        top.cb,
+        top.cr,
+        bottom.shape,
+        bottom.luma,
+        bottom.cb,
+        bottom.cr,
+    );
+}
+
+// The same of the field that waited, of this parity, and the new one.
+fn weave_pair(
+    parity: Parity,
+    first: Lent<'_>,
+    second: Lent<'_>,
+    out_luma: &mut [u8],
+    out_cb: &mut [u8],
+    out_cr: &mut [u8],
+)
+    requires { WeavableInto (found_field first.shape first.luma first.cb first.cr) (found_field second.shape second.luma second.cb second.cr) out_luma out_cb out_cr }
+    ensures out_luma_after { out_luma.new ≡ over (woven_by parity first.entry.luma.now first.entry.shape.luma second.entry.luma.now second.entry.shape.luma) out_luma.old }
+    ensures out_cb_after { out_cb.new ≡ over (woven_by parity first.entry.cb.now first.entry.shape.cb second.entry.cb.now second.entry.shape.cb) out_cb.old }
+    ensures out_cr_after { out_cr.new ≡ over (woven_by parity first.entry.cr.now first.entry.shape.cr second.entry.cr.now second.entry.shape.cr) out_cr.old }
 {
     match parity {
-        Parity::Top => {
-            weave::weave(
-                out_luma,
-                out_cb,
-                out_cr,
-                first,
-                first_luma,
-                first_cb,
-                first_cr,
-                second,
-                second_luma,
-                second_cb,
-                second_cr,
-            );
-        }
-        Parity::Bottom => {
-            weave::weave(
-                out_luma,
-                out_cb,
-                out_cr,
-                second,
-                second_luma,
-                second_cb,
-                second_cr,
-                first,
-                first_luma,
-                first_cb,
-                first_cr,
-            );
-        }
+        Parity::Top => weave_lent(first, second, out_luma, out_cb, out_cr),
+        Parity::Bottom => weave_lent(second, first, out_luma, out_cb, out_cr),
     }
 }
 
@@ -279,38 +303,27 @@ fn weave_pair(
 fn weave_kept(
     kept: Weaver,
     store: &[u8],
-    shape: Field,
-    luma: &[u8],
-    cb: &[u8],
-    cr: &[u8],
+    field: Lent<'_>,
     out_luma: &mut [u8],
     out_cb: &mut [u8],
     out_cr: &mut [u8],
 )
-    requires weavable_into { WeavableInto (kept_field kept store.now) (found_field shape luma cb cr) out_luma out_cb out_cr }
+    requires weavable_into { WeavableInto (kept_field kept store.now) (found_field field.shape field.luma field.cb field.cr) out_luma out_cb out_cr }
     requires depth_in_bounds { field_bytes kept.width kept.height kept.depth ≤ length store.now }
-    ensures out_luma_after { out_luma.new ≡ over (picture_luma kept store.now (lent_field shape luma cb cr)) out_luma.old }
-    ensures out_cb_after { out_cb.new ≡ over (picture_cb kept store.now (lent_field shape luma cb cr)) out_cb.old }
-    ensures out_cr_after { out_cr.new ≡ over (picture_cr kept store.now (lent_field shape luma cb cr)) out_cr.old }
+    ensures out_luma_after { out_luma.new ≡ over (picture_luma kept store.now (found_field field.entry.shape field.entry.luma field.entry.cb field.entry.cr)) out_luma.old }
+    ensures out_cb_after { out_cb.new ≡ over (picture_cb kept store.now (found_field field.entry.shape field.entry.luma field.entry.cb field.entry.cr)) out_cb.old }
+    ensures out_cr_after { out_cr.new ≡ over (picture_cr kept store.now (found_field field.entry.shape field.entry.luma field.entry.cb field.entry.cr)) out_cr.old }
 {
-    let parity = kept.parity;
-    let first = packed_shape(kept.width, kept.height, kept.depth);
-    let a = luma_bytes(kept.width, kept.height, kept.depth);
-    let b = chroma_bytes(kept.width, kept.height, kept.depth);
-    weave_pair(
-        parity,
-        first,
-        &store[0..a],
-        &store[a..a + b],
-        &store[a + b..a + b + b],
-        shape,
-        luma,
-        cb,
-        cr,
-        out_luma,
-        out_cb,
-        out_cr,
-    );
+    let size = kept.size();
+    let a = size.plane_bytes();
+    let b = size.chroma_bytes();
+    let first = Lent {
+        shape: size.shape(),
+        luma: &store[0..a],
+        cb: &store[a..a + b],
+        cr: &store[a + b..a + b + b],
+    };
+    weave_pair(kept.parity, first, field, out_luma, out_cb, out_cr);
 }
 
 impl Weaver {
@@ -322,8 +335,8 @@ impl Weaver {
             width: 0,
             height: 0,
             depth: 0,
-            parity: field::Parity::Top,
-            time: Time::Absent,
+            parity: Parity::Top,
+            time: None,
         }
     }
 
@@ -337,65 +350,66 @@ impl Weaver {
     // Takes a field. If it fits the one that waits, the outputs get the picture; else it waits itself.
     pub fn push(
         self,
-        shape: weave::Field,
+        shape: Field,
         luma: &[u8],
         cb: &[u8],
         cr: &[u8],
-        parity: field::Parity,
-        time: Time,
+        parity: Parity,
+        time: Option<i64>,
         store: &mut [u8],
         out_luma: &mut [u8],
         out_cb: &mut [u8],
         out_cr: &mut [u8],
     ) -> Pushed
-        ensures answer_value { paired_no result.answer ≡ push_no_of self (lent_field shape luma cb cr) parity store out_luma out_cb out_cr }
-        ensures answer_value_2 { paired_values result.answer ≡ when_done (paired_no result.answer) (picture_times self shape parity) }
-        ensures weaver_value { result.weaver ≡ push_weaver (paired_no result.answer) self shape parity time }
-        ensures store_after { store.new ≡ push_store (paired_no result.answer) self (lent_field shape luma cb cr) parity store.old }
-        ensures out_luma_after { out_luma.new ≡ push_out (paired_no result.answer) self shape parity (picture_luma self store.old (lent_field shape luma cb cr)) out_luma.old }
-        ensures out_cb_after { out_cb.new ≡ push_out (paired_no result.answer) self shape parity (picture_cb self store.old (lent_field shape luma cb cr)) out_cb.old }
-        ensures out_cr_after { out_cr.new ≡ push_out (paired_no result.answer) self shape parity (picture_cr self store.old (lent_field shape luma cb cr)) out_cr.old }
+        ensures answer_value { no_of result.answer ≡ push_no_of self (lent_field shape luma cb cr) parity store out_luma out_cb out_cr }
+        ensures answer_value_2 { paired_values result.answer ≡ when_done (no_of result.answer) (picture_times self shape parity) }
+        ensures weaver_value { result.weaver ≡ push_weaver (no_of result.answer) self shape parity time }
+        ensures store_after { store.new ≡ push_store (no_of result.answer) self (lent_field shape luma cb cr) parity store.old }
+        ensures out_luma_after { out_luma.new ≡ push_out (no_of result.answer) self shape parity (picture_luma self store.old (lent_field shape luma cb cr)) out_luma.old }
+        ensures out_cb_after { out_cb.new ≡ push_out (no_of result.answer) self shape parity (picture_cb self store.old (lent_field shape luma cb cr)) out_cb.old }
+        ensures out_cr_after { out_cr.new ≡ push_out (no_of result.answer) self shape parity (picture_cr self store.old (lent_field shape luma cb cr)) out_cr.old }
     {
-        let picture = fits_kept(self, shape, parity);
-        let no = push_no(
+        let field = Lent {
+            shape,
+            luma,
+            cb,
+            cr,
+        };
+        let picture = self.fits(shape, parity);
+        if let Err(refusal) = takeable(
             self,
             picture,
-            shape,
-            luma.len(),
-            cb.len(),
-            cr.len(),
+            field,
             store.len(),
             out_luma.len(),
             out_cb.len(),
             out_cr.len(),
-        );
-        if no != 0 {
+        ) {
             return Pushed {
                 weaver: self,
-                answer: Paired::Refused(no),
+                answer: Err(refusal),
             };
         }
         if picture {
-            weave_kept(self, store, shape, luma, cb, cr, out_luma, out_cb, out_cr);
-            let earlier = self.time;
+            weave_kept(self, store, field, out_luma, out_cb, out_cr);
             let emptied = Weaver::new();
             return Pushed {
                 weaver: emptied,
-                answer: Paired::Picture(earlier),
+                answer: Ok(Paired::Picture(self.time)),
             };
         }
-        pack_field(store, shape, luma, cb, cr);
+        pack_field(store, field);
         let waiting = Weaver {
             held: true,
             width: shape.luma.width,
             height: shape.luma.height,
             depth: shape.luma.depth,
-            parity: parity,
-            time: time,
+            parity,
+            time,
         };
         Pushed {
             weaver: waiting,
-            answer: Paired::Waits,
+            answer: Ok(Paired::Waits),
         }
     }
 }

@@ -12,15 +12,12 @@ returns-then-floats-gt4096 c = simp (lt-leb _ _ c.if-floats-gt4096.true)
 
 pub loop-i-init : goal.loop-i-init
 unfolding every
-loop-i-init c = (refl, omega arith)
-
-pub loop-i-smaller : goal.loop-i-smaller
-loop-i-smaller c = omega arith
+loop-i-init c = refl
 
 pub loop-i-preserved : goal.loop-i-preserved
 loop-i-preserved c =
     let a = c.args in
-    (floats_more a.floats.now a.bytes.now _ _ _ _ c.loop-i.invariant.0 c.same_float-same.ensures c.number_at.ensures, omega arith)
+    floats_more a.floats.now a.bytes.now _ _ _ _ c.loop-i.invariant c.same_float-same.ensures c.number_at.ensures
 
 pub returns : goal.returns
-returns c = floats_end _ _ _ _ c.if-floats-gt4096.false c.loop-i.invariant.0 (omega arith)
+returns c = floats_end _ _ _ _ c.if-floats-gt4096.false c.loop-i.invariant (omega arith)

@@ -15,18 +15,6 @@ pub near-requires : goal.near-requires
 near-requires c =
     (c.around.ensures.under.size ∙ c.requires.tiled.1, omega (arith, c.requires.tiled.0.few, c.loop-x-test.true, c.loop-x.invariant.1), omega arith)
 
-pub offset_bounds-out-x : goal.offset_bounds-out-x
-offset_bounds-out-x c = omega arith
-
-pub bounds-out-x : goal.bounds-out-x
-bounds-out-x c = omega arith
-
-pub overflow_add-x : goal.overflow_add-x
-overflow_add-x c = omega arith
-
-pub loop-x-smaller : goal.loop-x-smaller
-loop-x-smaller c = omega arith
-
 pub loop-x-preserved : goal.loop-x-preserved
 loop-x-preserved c =
     let a = c.args in

@@ -17,9 +17,9 @@ around-requires c =
 pub loop-x-init : goal.loop-x-init
 loop-x-init c = (zero-le, refl, λ p q r m f. fill_starts)
 
-pub edge_far-pick-requires : goal.edge_far-pick-requires
-edge_far-pick-requires c =
-    (c.around.ensures.under.size ∙ c.motion.ensures.rows_len, omega (arith, c.requires.tiled.0.few, c.loop-x-test.true, c.loop-x.invariant.1))
+pub edge-pick-requires : goal.edge-pick-requires
+edge-pick-requires c =
+    (c.around.ensures.under.size ∙ c.motion.ensures.rows_len, omega (arith, c.requires.tiled.0.few, c.loop-x-test.true, c.loop-x.invariant.1), omega arith)
 
 pub in_motion-requires : goal.in_motion-requires
 in_motion-requires c =
@@ -27,15 +27,6 @@ in_motion-requires c =
 
 pub offset_bounds-out-x : goal.offset_bounds-out-x
 offset_bounds-out-x c = omega (arith, c.loop-x-test.true, c.loop-x.invariant.1, c.requires.tiled.0.few)
-
-pub bounds-out-x : goal.bounds-out-x
-bounds-out-x c = omega arith
-
-pub overflow_add-x : goal.overflow_add-x
-overflow_add-x c = omega (arith, c.loop-x-test.true, c.loop-x.invariant.1, c.requires.tiled.0.few)
-
-pub loop-x-smaller : goal.loop-x-smaller
-loop-x-smaller c = omega arith
 
 pub loop-x-preserved : goal.loop-x-preserved
 unfolding bwdif_of edge_of far_of
@@ -48,7 +39,7 @@ loop-x-preserved c =
           fills (c.loop-x.invariant.2 p q r m f) (omega arith)
           (c.in_motion.ensures p q r a.from (length a.out.now) (pos a.y) m (omega arith)
           ∙ ap (in_motion_of p q r (pos (a.from + c.loop-x.x)) (pos a.y))
-          (c.cubic.ensures ∙ ap (λ (k : Pick). cubic_of k.near k.far) (c.edge_far-pick.ensures q a.from (length a.out.now) (pos a.y) three m.near f (omega arith)))),
+          (c.cubic.ensures ∙ ap (λ (k : Pick). cubic_of k.near k.far) (c.edge-pick.ensures q a.from (length a.out.now) (pos a.y) three m.near f (omega arith)))),
     )
 
 pub shape_of-out : goal.shape_of-out

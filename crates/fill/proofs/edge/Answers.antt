@@ -5,7 +5,7 @@ use Rattle.fill.proofs.edge.Goals as goal
 
 pub returns : goal.returns
 unfolding best_of
-returns c = λ v from count y off near far l.
+returns g c = λ v from count y off near far l.
     c.tried.ensures v from count y off _ near far l
     (c.tried-far_left.ensures v from count y off _ near far l
     (c.tried-right.ensures v from count y off _ near far l
@@ -18,16 +18,16 @@ returns c = λ v from count y off near far l.
 
 pub tried-left-requires : goal.tried-left-requires
 unfolding of_bits of_int
-tried-left-requires c = search rules
+tried-left-requires g c = search rules
 
 pub tried-right-requires : goal.tried-right-requires
 unfolding of_bits of_int
-tried-right-requires c = search rules
+tried-right-requires g c = search rules
 
 pub tried-far_left-requires : goal.tried-far_left-requires
 unfolding of_bits of_int
-tried-far_left-requires c = search rules
+tried-far_left-requires g c = search rules
 
 pub tried-requires : goal.tried-requires
 unfolding of_bits of_int
-tried-requires c = search rules
+tried-requires g c = search rules

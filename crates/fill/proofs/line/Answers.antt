@@ -1,11 +1,11 @@
 use mathlib.Core.Path.{◌≡◌, sym, ◌∙◌}
-use Prim.Native.Nat.{◌+◌, ◌-◌, ◌≤◌, ◌<◌}
+use Prim.Native.Nat.{◌-◌}
 use native.Mathlib.Omega.{arith}
 use lib.IntN.{pos}
 use lib.ListN.{length, take, drop}
 use Rattle.laws.proofs.Lists.{fill_starts, fill_ends, part_length}
 use Rattle.filter.specs.Making.{sample_in}
-use Rattle.fill.proofs.Tiles.{tile_more}
+use Rattle.fill.proofs.Tiles.{tile_ends, tile_more}
 use Rattle.fill.proofs.line.Goals as goal
 
 pub loop-x-init : goal.loop-x-init
@@ -15,46 +15,15 @@ pub overflow_add-x : goal.overflow_add-x
 overflow_add-x c =
     omega (arith, c.loop-x-test.true, c.loop-x.invariant.0.long, c.requires.y_lt_height.1, c.requires.all_lent.cur_lent.width_most)
 
-pub offset_bounds-out-x : goal.offset_bounds-out-x
-offset_bounds-out-x c =
-    let step : (c.loop-x.x < c.shorter-to.result) × (c.shorter-to.result ≤ length c.loop-x.out) × (c.shorter-to.result ≤ c.loop-x.x + 512) = let e = c.shorter-to.ensures in
-    let t = c.loop-x-test.true in
-    (omega (arith, e, t), omega (arith, e), omega (arith, e)) in
-    omega (arith, step)
-
-pub slice_bounds-tile-count : goal.slice_bounds-tile-count
-slice_bounds-tile-count c =
-    let step : (c.loop-x.x < c.shorter-to.result) × (c.shorter-to.result ≤ length c.loop-x.out) × (c.shorter-to.result ≤ c.loop-x.x + 512) = let e = c.shorter-to.ensures in
-    let t = c.loop-x-test.true in
-    (omega (arith, e, t), omega (arith, e), omega (arith, e)) in
-    omega (arith, step)
-
-pub slice_bounds-tile-start : goal.slice_bounds-tile-start
-slice_bounds-tile-start c =
-    let step : (c.loop-x.x < c.shorter-to.result) × (c.shorter-to.result ≤ length c.loop-x.out) × (c.shorter-to.result ≤ c.loop-x.x + 512) = let e = c.shorter-to.ensures in
-    let t = c.loop-x-test.true in
-    (omega (arith, e, t), omega (arith, e), omega (arith, e)) in
-    omega (arith, step)
-
-pub slice_bounds-tile-end : goal.slice_bounds-tile-end
-slice_bounds-tile-end c =
-    let step : (c.loop-x.x < c.shorter-to.result) × (c.shorter-to.result ≤ length c.loop-x.out) × (c.shorter-to.result ≤ c.loop-x.x + 512) = let e = c.shorter-to.ensures in
-    let t = c.loop-x-test.true in
-    (omega (arith, e, t), omega (arith, e), omega (arith, e)) in
-    omega (arith, step)
-
 pub overflow_add-left : goal.overflow_add-left
 overflow_add-left c =
     omega (arith, c.loop-x-test.true, c.loop-x.invariant.0.long, c.requires.y_lt_height.1, c.requires.all_lent.cur_lent.width_most)
 
 pub tile-requires : goal.tile-requires
 tile-requires c =
-    let step : (c.loop-x.x < c.shorter-to.result) × (c.shorter-to.result ≤ length c.loop-x.out) × (c.shorter-to.result ≤ c.loop-x.x + 512) = let e = c.shorter-to.ensures in
-    let t = c.loop-x-test.true in
-    (omega (arith, e, t), omega (arith, e), omega (arith, e)) in
-    let s = step in
+    let s = tile_ends c.loop-x-test.true c.min-to.ensures in
     let x = c.loop-x.x in
-    let to = c.shorter-to.result in
+    let to = c.min-to.result in
     let same = c.loop-x.invariant.0.long in
     let long : length (take (to - x) (drop x c.loop-x.out)) ≡ to - x = part_length c.loop-x.out x (to - x) (omega (arith, s)) in record {
       all_lent = c.requires.all_lent;
@@ -71,17 +40,12 @@ tile-requires c =
 
 pub loop-x-smaller : goal.loop-x-smaller
 loop-x-smaller c =
-    let step : (c.loop-x.x < c.shorter-to.result) × (c.shorter-to.result ≤ length c.loop-x.out) × (c.shorter-to.result ≤ c.loop-x.x + 512) = let e = c.shorter-to.ensures in
-    let t = c.loop-x-test.true in
-    (omega (arith, e, t), omega (arith, e), omega (arith, e)) in
-    omega (arith, step, c.loop-x.invariant.0.long)
+    let s = tile_ends c.loop-x-test.true c.min-to.ensures in
+    omega (arith, s, c.loop-x.invariant.0.long)
 
 pub loop-x-preserved : goal.loop-x-preserved
 loop-x-preserved c =
-    let step : (c.loop-x.x < c.shorter-to.result) × (c.shorter-to.result ≤ length c.loop-x.out) × (c.shorter-to.result ≤ c.loop-x.x + 512) = let e = c.shorter-to.ensures in
-    let t = c.loop-x-test.true in
-    (omega (arith, e, t), omega (arith, e), omega (arith, e)) in
-    let s = step in
+    let s = tile_ends c.loop-x-test.true c.min-to.ensures in
     let a = c.args in
     let e = c.tile.ensures in (
       tile_more (λ x. sample_in a.making a.before.now a.cur.now a.after.now (pos x) (pos a.y)) a.left c.loop-x.x _ c.loop-x.invariant.0

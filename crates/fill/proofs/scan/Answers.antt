@@ -30,18 +30,6 @@ value-requires c =
     let there : (let a = c.args in a.at + a.step * (a.from + c.loop-x.x) + sample_bytes a.depth ≤ length a.src.now) = c.requires.by_index c.loop-x.x (omega (arith, c.loop-x.invariant.long)) in
     (there, c.requires.dst_bound.2)
 
-pub offset_bounds-dst-x : goal.offset_bounds-dst-x
-offset_bounds-dst-x c = omega arith
-
-pub bounds-dst-x : goal.bounds-dst-x
-bounds-dst-x c = omega arith
-
-pub overflow_add-x : goal.overflow_add-x
-overflow_add-x c = omega arith
-
-pub loop-x-smaller : goal.loop-x-smaller
-loop-x-smaller c = omega arith
-
 pub loop-x-preserved : goal.loop-x-preserved
 loop-x-preserved c = fills c.loop-x.invariant (omega arith) c.value.ensures
 

@@ -15,7 +15,7 @@ loop-x-init c = (zero-le, refl, λ p q r m. fill_starts)
 
 pub edge-pick-requires : goal.edge-pick-requires
 edge-pick-requires c =
-    (c.motion.ensures.rows_len, omega (arith, c.requires.tiled.0.few, c.loop-x-test.true, c.loop-x.invariant.1))
+    (c.motion.ensures.rows_len, omega (arith, c.requires.tiled.0.few, c.loop-x-test.true, c.loop-x.invariant.1), omega arith)
 
 pub in_motion-requires : goal.in_motion-requires
 in_motion-requires c =
@@ -23,15 +23,6 @@ in_motion-requires c =
 
 pub offset_bounds-out-x : goal.offset_bounds-out-x
 offset_bounds-out-x c = omega arith
-
-pub bounds-out-x : goal.bounds-out-x
-bounds-out-x c = omega arith
-
-pub overflow_add-x : goal.overflow_add-x
-overflow_add-x c = omega arith
-
-pub loop-x-smaller : goal.loop-x-smaller
-loop-x-smaller c = omega arith
 
 pub loop-x-preserved : goal.loop-x-preserved
 unfolding yadif_of edge_of

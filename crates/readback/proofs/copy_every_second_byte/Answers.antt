@@ -19,12 +19,6 @@ bounds-row-x c = omega arith
 pub bounds-to-x : goal.bounds-to-x
 bounds-to-x c = omega arith
 
-pub overflow_add-x : goal.overflow_add-x
-overflow_add-x c = omega arith
-
-pub loop-x-smaller : goal.loop-x-smaller
-loop-x-smaller c = omega arith
-
 pub loop-x-preserved : goal.loop-x-preserved
 loop-x-preserved c = fills c.loop-x.invariant (omega arith) refl
 

@@ -1,4 +1,0 @@
-use Rattle.answers.proofs.float.Goals as goal
-
-pub returns : goal.returns
-returns c = cc

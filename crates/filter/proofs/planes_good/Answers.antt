@@ -1,4 +1,0 @@
-use Rattle.filter.proofs.planes_good.Goals as goal
-
-pub returns : goal.returns
-returns c = cc

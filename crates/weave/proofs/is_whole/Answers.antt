@@ -1,4 +1,0 @@
-use Rattle.weave.proofs.is_whole.Goals as goal
-
-pub returns : goal.returns
-returns c = cc
