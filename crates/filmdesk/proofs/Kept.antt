@@ -11,7 +11,7 @@ use lib.ListN.{length, take, drop, length-append, length-set}
 use lib.Seq.{get_or-take, take_at, drop_at, drop-drop, length-take-le}
 use Rattle.laws.specs.Refusal.{lowest, written}
 use Rattle.laws.specs.Rows.{over}
-use Rattle.laws.proofs.Lists.{length_listed}
+use Rattle.laws.proofs.Lists.{length_listed, same_listed, listed_again, part_length, part_at}
 use Rattle.laws.proofs.Rows.{over_all}
 use Rattle.laws.proofs.Sums.{same_terms}
 use Rattle.field.specs.declared.Parity.{Parity}
@@ -53,6 +53,13 @@ module _ (numbers state : List ℕ) (ten : length numbers ≡ 10) (room : 96 ≤
       (sym (append_assoc (packed_of numbers) (ring ++ (phase ∷ [])) (drop 96 state)))
 
 -- ---- the first 96 bytes hold all of a detector
+pub ring_there : (bytes : List ℕ) → 96 ≤ length bytes → take 15 (drop 80 bytes) ≡ (detector_in bytes).lock.ring
+unfolding detector_in
+ring_there bytes h =
+    let ring = take 15 (drop 80 bytes) in
+    let long : length ring ≡ 15 = part_length bytes 80 15 (omega arith) in
+    sym (listed_again ring 15 0 (sym long)) ∙ same_listed 15 _ _ (λ i l. part_at bytes 80 15 i 0 l)
+
 pub front_number : (bytes : List ℕ) (k : ℕ) → k < 10 → number_at (take 96 bytes) k ≡ number_at bytes k
 unfolding number_at
 front_number bytes k h = same_terms 8 _ _ (λ i l. ap (λ (b : ℕ). b * 256 ^ i) (get_or-take 96 bytes (8 * k + i) 0 (omega arith)))

@@ -46,7 +46,7 @@ fn chosen_in(number: u64) -> Option<Parity>
     }
 }
 
-#[tactic(auto, unfolding(crate::specs::Kept::detector_in))]
+#[tactic(auto, using(crate::proofs::Kept::ring_there))]
 fn ring_in(state: &[u8]) -> [u8; 15]
     requires { 96 ≤ length state.now }
     ensures { result ≡ (detector_in state.now).lock.ring }
@@ -57,6 +57,7 @@ fn ring_in(state: &[u8]) -> [u8; 15]
 }
 
 // Of a part whose length is known, no number has to be tested for where the bytes end.
+#[tactic(auto, using(crate::proofs::Kept::front_number), unfolding(crate::specs::Kept::detector_in))]
 fn course_in(state: &[u8]) -> Course
     requires { 96 ≤ length state.now }
     ensures { result ≡ (detector_in state.now).lock.course }
@@ -72,6 +73,7 @@ fn course_in(state: &[u8]) -> Course
     }
 }
 
+#[tactic(auto, using(crate::proofs::Kept::front_number), unfolding(crate::specs::Kept::detector_in))]
 fn kept_in(state: &[u8]) -> Kept
     requires { 96 ≤ length state.now }
     ensures { result ≡ (detector_in state.now).kept }
@@ -85,6 +87,7 @@ fn kept_in(state: &[u8]) -> Kept
     }
 }
 
+#[tactic(auto, using(crate::proofs::Kept::front_number), unfolding(crate::specs::Kept::detector_in))]
 fn last_in(state: &[u8]) -> Option<Parity>
     requires { 96 ≤ length state.now }
     ensures { result ≡ (detector_in state.now).last }
@@ -159,31 +162,25 @@ fn numbers_of(course: Course, kept: Kept, last: Option<Parity>) -> [u64; 10]
 
 // The ring, and the phase behind it, into a place of just their bytes.
 fn write_ring(to: &mut [u8], ring: &[u8; 15], phase: u8)
-    requires { (length to.old ≡ 16) × (length ring.now ≡ 15) }
+    requires { length to.old ≡ 16 }
     ensures { to.new ≡ ring.now ++ (phase ∷ []) }
 {
     to[..15].copy_from_slice(ring);
     to[15] = phase;
 }
 
-// Writes a detector to a state that is long enough.
-fn keep_apart(
-    state: &mut [u8],
-    ring: &[u8; 15],
-    course: Course,
-    kept: Kept,
-    last: Option<Parity>,
-)
-    requires { (96 ≤ length state.old) × (length ring.now ≡ 15) }
+// Writes a detector to a state that is long enough, so that the numbers have room.
+fn keep_apart(state: &mut [u8], ring: &[u8; 15], course: Course, kept: Kept, last: Option<Parity>)
+    requires { 96 ≤ length state.old }
     ensures { state.new ≡ keeping (detector_with ring.now course kept last) state.old }
 {
     let numbers = numbers_of(course, kept, last);
-    packed::write_numbers(&mut state[..RING], &numbers);
+    let _ = packed::write_numbers(&mut state[0..RING], &numbers);
     write_ring(&mut state[RING..STATE_BYTES], ring, course.phase);
 }
 
 fn keep(state: &mut [u8], detector: Detector)
-    requires { (96 ≤ length state.old) × (length detector.lock.ring ≡ 15) }
+    requires { 96 ≤ length state.old }
     ensures { state.new ≡ keeping detector state.old }
 {
     let lock = detector.lock;
@@ -249,6 +246,7 @@ fn judge(parity: u8, picture: Grid, given: usize) -> Result<(), Refusal>
 // `store` keeps as 8-bit samples, row by row. Codes are not shifted, and one above 2^depth - 1 counts as
 // that: a biplanar luma deeper than 8 bits, whose codes stand in the high bits, goes through readback
 // first. Numbers 3, 4 and 6.
+#[tactic(auto, using(crate::proofs::Calls::busy_number, crate::proofs::Calls::busy_given, crate::proofs::Calls::total_given), unfolding(laws::specs::Refusal::lowest))]
 #[unsafe(no_mangle)]
 pub extern "C" fn desk_busy(
     plane: &[u8],
@@ -391,6 +389,7 @@ pub extern "C" fn desk_detector_push_measured(
 // Takes a picture led by the field `parity`, compares it with the frame that the store keeps, and keeps
 // it there. Codes are not shifted, and one above 2^depth - 1 counts as that: a biplanar luma deeper than
 // 8 bits, whose codes stand in the high bits, goes through readback first. Numbers 3, 4, 6, 7 and 9.
+#[tactic(auto, using(laws::proofs::Refusal::done_equal, crate::proofs::Calls::push_refused, crate::proofs::Calls::push_shape, crate::proofs::Calls::judged_room, crate::proofs::Calls::push_number), unfolding(laws::specs::Refusal::lowest))]
 #[unsafe(no_mangle)]
 pub extern "C" fn desk_detector_push(
     state: &mut [u8],
