@@ -22,11 +22,6 @@ use Rattle.block.specs.Answer.{counts_of, count_no, count_values}
 use Rattle.filmdesk.specs.Inner.{first_tests}
 use Rattle.filmdesk.specs.Film.{picture_named, busy_no, push_state_no}
 
--- two tests that passed stand in front
-pub behind_two :
-    (n m : ℕ) {a b : Bool} (tests : List (ℕ × Bool)) → a ≡ true → b ≡ true → lowest tests ≡ lowest ((n, a) ∷ (m, b) ∷ tests)
-behind_two n m tests p q = number_behind m q refl ∙ number_behind n p refl
-
 -- ---- counts of two shapes that are both out of bounds, or one
 module _ (bytes store : List ℕ) (parity : ℕ) where
   none : (s : Shape) → good_shape s ≡ false → count_values bytes s store parity ≡ []

@@ -26,6 +26,8 @@ use pulldown::{Course, Lock};
 use refusal::Refusal;
 use telecine::{Detector, Kept, Measured};
 
+// What reads or writes a state asks for this length of a slice, and is lent no array: the exports' clauses
+// speak of all that the host lends, which may be longer.
 const STATE_BYTES: usize = 96;
 
 // Where the ring stands in it, behind the numbers; the phase is the last byte.
@@ -115,13 +117,14 @@ fn outline_in(state: &[u8]) -> Detector
     requires { 96 ≤ length state.now }
     ensures { result ≡ detector_with (replicate 15 0) (detector_in state.now).lock.course nothing_kept (detector_in state.now).last }
 {
+    let last = last_in(state);
     let fresh = Detector::new();
     Detector {
         lock: Lock {
             course: course_in(state),
             ..fresh.lock
         },
-        last: last_in(state),
+        last,
         ..fresh
     }
 }
@@ -143,9 +146,14 @@ fn chosen_number(chosen: Option<Parity>) -> u64
     }
 }
 
-fn numbers_of(course: Course, kept: Kept, last: Option<Parity>) -> [u64; 10]
-    ensures { result ≡ detector_numbers (detector_with [] course kept last) }
+fn numbers_of(detector: &Detector) -> [u64; 10]
+    ensures { result ≡ detector_numbers detector.now }
 {
+    let Detector {
+        lock: Lock { course, .. },
+        kept,
+        last,
+    } = *detector;
     [
         course.next as u64,
         course.held as u64,
@@ -163,28 +171,24 @@ fn numbers_of(course: Course, kept: Kept, last: Option<Parity>) -> [u64; 10]
 // The ring, and the phase behind it, into a place of just their bytes.
 fn write_ring(to: &mut [u8], ring: &[u8; 15], phase: u8)
     requires { length to.old ≡ 16 }
-    ensures { to.new ≡ ring.now ++ (phase ∷ []) }
+    ensures { (to.new ≡ ring.now ++ (phase ∷ [])) × (length ring.now ≡ 15) }
 {
     to[..15].copy_from_slice(ring);
     to[15] = phase;
 }
 
 // Writes a detector to a state that is long enough, so that the numbers have room.
-fn keep_apart(state: &mut [u8], ring: &[u8; 15], course: Course, kept: Kept, last: Option<Parity>)
+fn keep(state: &mut [u8], detector: &Detector)
     requires { 96 ≤ length state.old }
-    ensures { state.new ≡ keeping (detector_with ring.now course kept last) state.old }
+    ensures { state.new ≡ keeping detector.now state.old }
 {
-    let numbers = numbers_of(course, kept, last);
+    let numbers = numbers_of(detector);
     let _ = packed::write_numbers(&mut state[0..RING], &numbers);
-    write_ring(&mut state[RING..STATE_BYTES], ring, course.phase);
-}
-
-fn keep(state: &mut [u8], detector: Detector)
-    requires { 96 ≤ length state.old }
-    ensures { state.new ≡ keeping detector state.old }
-{
-    let lock = detector.lock;
-    keep_apart(state, &lock.ring, lock.course, detector.kept, detector.last);
+    write_ring(
+        &mut state[RING..STATE_BYTES],
+        &detector.lock.ring,
+        detector.lock.course.phase,
+    );
 }
 
 // Takes counts: the detector is read from the state, and written back where it is not full. The ring stays
@@ -199,14 +203,15 @@ fn push_counts(
     ensures result_value_2 { values_of result ≡ when_done (measured_no (detector_in state.old)) (measured_cadence (detector_in state.old) first measured) }
     ensures state_after { state.new ≡ written (no_of result) (keeping (measured_detector (detector_in state.old) first measured) state.old) state.old }
 {
-    let mut ring = ring_in(state);
-    let course = course_in(state);
-    let kept = kept_in(state);
-    let last = last_in(state);
+    let mut detector = detector_in(state);
+    let course = detector.lock.course;
+    let last = detector.last;
     let seen = telecine::seen_measured(last, first, measured);
-    let stepped = telecine::step(&mut ring, course, last, first, seen);
+    let stepped = telecine::step(&mut detector.lock.ring, course, last, first, seen);
     let found = stepped.answer?;
-    keep_apart(state, &ring, stepped.course, kept, Some(first));
+    detector.lock.course = stepped.course;
+    detector.last = stepped.last;
+    keep(state, &detector);
     Ok(found)
 }
 
@@ -301,7 +306,7 @@ pub extern "C" fn desk_detector_new(state: &mut [u8]) -> u8
     if room < STATE_BYTES {
         return Refusal::ShortOutput.number();
     }
-    keep(state, Detector::new());
+    keep(state, &Detector::new());
     0
 }
 
@@ -315,7 +320,8 @@ pub extern "C" fn desk_detector_reset(state: &mut [u8]) -> u8
     if given < STATE_BYTES {
         return Refusal::ShortInput.number();
     }
-    keep(state, reset_in(state));
+    let fresh = reset_in(state);
+    keep(state, &fresh);
     0
 }
 
@@ -412,7 +418,7 @@ pub extern "C" fn desk_detector_push(
     let pushed = detector.push(plane, picture, Parity::named(u64::from(parity)), store);
     match pushed.answer {
         Ok(seen) => {
-            keep(state, pushed.detector);
+            keep(state, &pushed.detector);
             *cadence = seen.number();
             0
         }
