@@ -8,6 +8,7 @@ use lib.Dec.{ltb}
 use lib.ListN.{length, length-append}
 use lib.Seq.{get_or-append-add}
 use borrow.Author.Tests.{lt-ltb, le-ltb, ne_eqb}
+use Rattle.refusal.specs.Refusal.{number_of}
 use Rattle.field.specs.declared.Cadence.{Cadence}
 use Rattle.field.specs.declared.Cadence.TheVariants.{None, Whole, Drop, Spanning}
 use Rattle.listing.specs.Listing.{decimal_in, decimal_of, none_word, whole_first, drop_word, spanning_word, refused_first, line_end, cadence_word, lock_end}
@@ -161,7 +162,7 @@ totals_told before w a x b y c n =
 -- ---- the claim
 pub tells_what_was_said : TellsWhatWasSaid
 tells_what_was_said before = record {
-  fault = λ n h. fault_told before n h;
+  fault = λ why h. fault_told before (number_of why) h;
   frame = λ n c locked. frame_told before (decimal_of n) c locked;
   totals = λ t. totals_told before whole_first (decimal_of t.whole) drop_word (decimal_of t.drop) spanning_word (decimal_of t.spanning) t.none;
 }

@@ -14,13 +14,6 @@ use listing::Lister;
 use pages::Ask;
 use std::io::Read;
 
-// What is left after what a step asked for was done, and whether to go on.
-#[derive(Clone, Copy)]
-struct Turn {
-    lister: Lister,
-    on: bool,
-}
-
 // On standard error. Where that fails too, nobody is left to be told.
 fn tell(text: &[u8]) {
     io::write_all(2, text);
@@ -32,7 +25,7 @@ fn read(rt: &HostRuntime, buffer: &mut [u8], from: usize) -> usize
     ensures upper_bound { result ≤ length buffer.old - from }
     ensures buffer_unchanged { take (min from (length buffer.old)) buffer.new ≡ take (min from (length buffer.old)) buffer.old }
 {
-    let start = pages::least(from, buffer.len());
+    let start = from.min(buffer.len());
     let part = &mut buffer[start..];
     match rt.stdin().read(part) {
         Ok(n) => n,
@@ -49,15 +42,7 @@ fn read(rt: &HostRuntime, buffer: &mut [u8], from: usize) -> usize
 fn front<'a>(page: &'a [u8], n: usize) -> &'a [u8]
     ensures { result.now ≡ take n page.now }
 {
-    let end = pages::least(n, page.len());
-    &page[0..end]
-}
-
-// The value of a digit; 0 for what stands below all digits.
-fn digit(byte: u8) -> u8
-    ensures { result ≡ byte - 48 }
-{
-    if 48 < byte { byte - 48 } else { 0 }
+    &page[..n.min(page.len())]
 }
 
 // The number of the refusal with which a text ends, and 0 where it ends with none. Of all lines only a
@@ -65,14 +50,10 @@ fn digit(byte: u8) -> u8
 fn refusal(text: &[u8]) -> u8
     ensures { result ≡ refusal_in text.now }
 {
-    let n = text.len();
-    if n < 4 {
-        return 0;
+    match text {
+        [.., b'd', b' ', digit, _] => digit.saturating_sub(b'0'),
+        _ => 0,
     }
-    if (text[n - 3] == b' ') & (text[n - 4] == b'd') {
-        return digit(text[n - 2]);
-    }
-    0
 }
 
 // Tells a refusal in words. A file is refused with no other numbers (`FaultsKnown` of `reel`).
@@ -108,48 +89,47 @@ fn write(page: &[u8], n: usize) -> bool {
     false
 }
 
-fn done(lister: Lister, on: bool) -> Turn
+// What to go on with, if the program goes on. By this contract one that goes on after a failed write is refused.
+fn done(lister: Lister, on: bool) -> Option<Lister>
     ensures { result ≡ done_with lister on }
 {
-    Turn {
-        lister: lister,
-        on: on,
-    }
+    on.then_some(lister)
 }
 
-// Does what a step asks for. After a write that failed nothing more is done.
-fn answered(rt: &HostRuntime, after: Lister, ask: Ask, buffer: &mut [u8], page: &[u8]) -> Turn
+// Does what a step asks for, and gives what is left to go on with; after a write that failed, and once the
+// listing is complete, nothing.
+fn answered(
+    rt: &HostRuntime,
+    after: Lister,
+    ask: Ask,
+    buffer: &mut [u8],
+    page: &[u8],
+) -> Option<Lister>
     ensures { Answers ask after (length buffer.old) result }
 {
     match ask {
         Ask::Unit => done(after, true),
         Ask::Read(from) => {
             let n = read(rt, buffer, from);
-            let came = after.came(buffer, n);
-            done(came, true)
+            done(after.came(buffer, n), true)
         }
         Ask::Write(n) => done(after, write(page, n)),
         Ask::Stop => done(after, false),
     }
 }
 
-// A file takes few steps for each of its bytes, so that none lasts as long as is counted down here.
+// A file takes few steps for each of its bytes, so that none lasts as long as is counted here.
 fn run(rt: &HostRuntime) {
     let mut buffer = [0u8; 65536];
     let mut page = [0u8; 65536];
     let mut store = [0u8; 16384];
     let mut lister = Lister::start();
-    let mut turns = u64::MAX;
-    while 0 < turns {
+    for _ in 0..u64::MAX {
         let step = lister.step(&mut buffer, &mut store, &mut page);
-        let after = step.lister;
-        let ask = step.ask;
-        let next = answered(rt, after, ask, &mut buffer, &page);
-        if !next.on {
-            return;
+        match answered(rt, step.lister, step.ask, &mut buffer, &page) {
+            Some(next) => lister = next,
+            None => return,
         }
-        lister = next.lister;
-        turns -= 1;
     }
 }
 

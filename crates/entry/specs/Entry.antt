@@ -1,11 +1,10 @@
 -- Measured entries as a reel file lays them out, and their cadences from a fresh detector (docs/RULES.md, "Reel file and listing", "Fields and
 -- readback").
-use Rattle.std.specs.Prelude.{ℕ, zero, suc, ◌+◌, ◌*◌, ◌/◌, ◌%◌, Bool, true, cond, ◌&&◌, List, [], ◌∷◌, leb, eqb, length, get_or, drop}
+use Rattle.std.specs.Prelude.{ℕ, zero, suc, ◌+◌, ◌*◌, ◌/◌, ◌%◌, Bool, true, cond, ◌&&◌, List, [], ◌∷◌, Option, Some, None, leb, eqb, length, get_or, drop}
 use Rattle.laws.specs.Refusal.{lowest}
 use Rattle.laws.specs.Rows.{listed}
 use Rattle.field.specs.Field.{parity_named, cadence_number}
 use Rattle.telecine.specs.declared.Measured.{Measured}
-use Rattle.telecine.specs.declared.Measured.TheVariants as measure
 use Rattle.telecine.specs.History.{Push, Call, push, measured, cadence_of}
 use Rattle.entry.specs.declared.Entry.{Entry}
 
@@ -29,8 +28,8 @@ abbrev pub good_entry : Entry → Bool
 good_entry e = leb e.parity 1 && leb e.present 1
 
 -- Absent entries' numbers are ignored.
-abbrev pub measured_in : Entry → Measured
-measured_in e = cond (eqb e.present 0) measure.Absent (measure.Counts e.leading e.trailing)
+abbrev pub measured_in : Entry → Option Measured
+measured_in e = cond (eqb e.present 0) None (Some (record { leading = e.leading; trailing = e.trailing }))
 
 -- the push that an entry stands for
 abbrev pub push_in : Entry → Push

@@ -4,54 +4,58 @@
 
 ghost use Rattle.std.specs.Prelude.{◌≡◌, ◌+◌, ◌*◌, ◌<◌, ◌≤◌, length, get_or};
 ghost use Rattle.laws.specs.Refusal.{written};
+ghost use Rattle.refusal.specs.Refusal.{no_of};
 ghost use Rattle.laws.specs.Rows.{listed, over};
 ghost use Rattle.field.specs.Field.{parity_named};
 ghost use Rattle.entry.specs.Entry.{word_at, entry_of, good_entry, measured_in, entry_at, cadence_at, every_below, cadences_no, cadences_of};
 ghost use Rattle.entry.specs.Inner.{code_at, EntriesReady};
 
-// The numbers of an entry as they stand in the file.
-#[derive(Clone, Copy)]
+use block::Counts;
+use field::Parity;
+use refusal::Refusal;
+use telecine::Measured;
+
+// The numbers of an entry as they stand in the file, which may be others than an entry's; `good` says.
+#[derive(Clone, Copy, Debug, PartialEq, Eq)]
 pub struct Entry {
     pub parity: u16,
     pub present: u16,
-    pub leading: block::Counts,
-    pub trailing: block::Counts,
-}
-
-fn wide(byte: u8) -> u16
-    ensures { (result ≡ byte) × (result < 256) }
-{
-    byte as u16
+    pub leading: Counts,
+    pub trailing: Counts,
 }
 
 fn byte_at(bytes: &[u8], i: usize) -> u16
     ensures { (result ≡ get_or bytes.now i 0) × (result < 256) }
 {
-    if i < bytes.len() { wide(bytes[i]) } else { 0 }
+    match bytes.get(i) {
+        Some(byte) => u16::from(*byte),
+        None => 0,
+    }
 }
 
 // The number at a place of a unit: 16 bits, low byte first. A byte past the end counts as 0.
 pub fn word_at(bytes: &[u8], i: u8) -> u16
     ensures { result ≡ word_at bytes.now i }
 {
-    let at = i as usize;
+    let at = usize::from(i);
     byte_at(bytes, at) + 256 * byte_at(bytes, at + 1)
 }
 
 // The entry at the front of some bytes, which count as 0 past their end.
+#[tactic(auto, unfolding(crate::specs::Entry::entry_of))]
 pub fn entry_of(bytes: &[u8]) -> Entry
     ensures { result ≡ entry_of bytes.now }
 {
     Entry {
         parity: word_at(bytes, 0),
         present: word_at(bytes, 2),
-        leading: block::Counts {
-            busy: word_at(bytes, 4) as u64,
-            total: word_at(bytes, 6) as u64,
+        leading: Counts {
+            busy: u64::from(word_at(bytes, 4)),
+            total: u64::from(word_at(bytes, 6)),
         },
-        trailing: block::Counts {
-            busy: word_at(bytes, 8) as u64,
-            total: word_at(bytes, 10) as u64,
+        trailing: Counts {
+            busy: u64::from(word_at(bytes, 8)),
+            total: u64::from(word_at(bytes, 10)),
         },
     }
 }
@@ -60,26 +64,26 @@ impl Entry {
     pub fn good(self) -> bool
         ensures { result ≡ good_entry self }
     {
-        (self.parity <= 1) & (self.present <= 1)
+        self.parity <= 1 && self.present <= 1
     }
 
     // The field that leads.
-    pub fn first(self) -> field::Parity
+    pub fn first(self) -> Parity
         ensures { result ≡ parity_named self.parity }
     {
-        let number = self.parity as u64;
-        field::Parity::named(number)
+        Parity::named(u64::from(self.parity))
     }
 
-    pub fn measured(self) -> telecine::Measured
+    pub fn measured(self) -> Option<Measured>
         ensures { result ≡ measured_in self }
     {
-        let leading = self.leading;
-        let trailing = self.trailing;
         if self.present == 0 {
-            telecine::Measured::Absent
+            None
         } else {
-            telecine::Measured::Counts(leading, trailing)
+            Some(Measured {
+                leading: self.leading,
+                trailing: self.trailing,
+            })
         }
     }
 }
@@ -87,6 +91,7 @@ impl Entry {
 // ---- entries one after another
 
 // Where the part's length is known, `entry_of` tests nothing at run time.
+#[tactic(auto, using(crate::proofs::Entries::entry_there))]
 fn entry_at(entries: &[u8], k: usize) -> Entry
     requires { 12 * k + 12 ≤ length entries.now }
     ensures { result ≡ entry_at entries.now k }
@@ -96,66 +101,64 @@ fn entry_at(entries: &[u8], k: usize) -> Entry
 }
 
 // Whether each of n entries names what it must.
+#[tactic(auto, using(crate::proofs::Entries::one_more, crate::proofs::Entries::none_yet))]
 fn all_good(entries: &[u8], n: usize) -> bool
     requires { 12 * n ≤ length entries.now }
     ensures { result ≡ every_below n (λ k. good_entry (entry_at entries.now k)) }
 {
     let mut good = true;
-    let mut judged = 0;
-    while judged < n {
-        let entry = entry_at(entries, judged);
-        good = good & entry.good();
-        judged += 1;
+    for judged in 0..n {
+        good &= entry_at(entries, judged).good();
     }
     good
 }
 
-fn cadences_no(entries: &[u8], room: usize) -> u8
-    ensures { result ≡ cadences_no entries.now room }
+// Whether some bytes are entries that a fresh detector takes, with room for their cadences.
+#[tactic(auto, unfolding(laws::specs::Refusal::lowest))]
+fn judge(entries: &[u8], room: usize) -> Result<(), Refusal>
+    ensures { no_of result ≡ cadences_no entries.now room }
 {
     let n = entries.len() / 12;
-    let few = refusal::test(refusal::TOO_MANY_FRAMES, n <= 4000000000, refusal::DONE);
-    let output = refusal::test(refusal::SHORT_OUTPUT, n <= room, few);
-    let input = refusal::test(refusal::SHORT_INPUT, entries.len() % 12 == 0, output);
-    refusal::test(refusal::OUTSIDE, all_good(entries, n), input)
+    Refusal::Outside.unless(all_good(entries, n))?;
+    Refusal::ShortInput.unless(entries.len() % 12 == 0)?;
+    Refusal::ShortOutput.unless(n <= room)?;
+    Refusal::TooManyFrames.unless(n <= 4000000000)
 }
 
 // What is seen of each of n entries that were judged, as a code.
+#[tactic(auto, using(laws::proofs::Rows::over_none, laws::proofs::Rows::over_more, crate::proofs::Entries::code_given, crate::proofs::Entries::last_left), unfolding(crate::specs::Entry::earlier_than))]
 fn write_codes(out: &mut [u8], entries: &[u8], n: usize)
     requires { EntriesReady n (length entries.now) (length out.old) }
     ensures { out.new ≡ over (listed n (code_at entries.now)) out.old }
 {
-    let mut last = field::Chosen::Neither;
-    let mut k = 0;
-    while k < n {
+    let mut last: Option<Parity> = None;
+    for k in 0..n {
         let entry = entry_at(entries, k);
         let first = entry.first();
         let seen = telecine::seen_measured(last, first, entry.measured());
         out[k] = pulldown::seen_code(seen);
-        last = field::Chosen::Field(first);
-        k += 1;
+        last = Some(first);
     }
 }
 
 // The cadences of n entries that were judged. What lies behind them in the output stays.
-fn write_cadences(out: &mut [u8], entries: &[u8], n: usize)
+#[tactic(auto, using(crate::proofs::Entries::none_refused, crate::proofs::Entries::all_written))]
+fn write_cadences(out: &mut [u8], entries: &[u8], n: usize) -> Result<(), Refusal>
     requires { EntriesReady n (length entries.now) (length out.old) }
-    ensures { out.new ≡ over (listed n (cadence_at entries.now)) out.old }
+    ensures done { no_of result ≡ 0 }
+    ensures out_after { out.new ≡ over (listed n (cadence_at entries.now)) out.old }
 {
     write_codes(out, entries, n);
-    pulldown::cadences_of(&mut out[0..n]);
+    pulldown::cadences_of(&mut out[..n])
 }
 
 // The cadence of each entry, from a fresh detector: 0 None, 1 Whole, 2 Drop, 3 Spanning. Numbers 3, 6,
 // 7 and 9.
 #[tactic(auto, using(laws::proofs::Refusal::written_done, laws::proofs::Refusal::stays, crate::proofs::Judged::passed))]
-pub fn cadences(out: &mut [u8], entries: &[u8]) -> u8
-    ensures value { result ≡ cadences_no entries.now (length out.old) }
-    ensures out_after { out.new ≡ written result (over (cadences_of entries.now) out.old) out.old }
+pub fn cadences(out: &mut [u8], entries: &[u8]) -> Result<(), Refusal>
+    ensures value { no_of result ≡ cadences_no entries.now (length out.old) }
+    ensures out_after { out.new ≡ written (no_of result) (over (cadences_of entries.now) out.old) out.old }
 {
-    let no = cadences_no(entries, out.len());
-    if no == 0 {
-        write_cadences(out, entries, entries.len() / 12);
-    }
-    no
+    judge(entries, out.len())?;
+    write_cadences(out, entries, entries.len() / 12)
 }

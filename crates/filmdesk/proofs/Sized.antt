@@ -7,15 +7,14 @@ use native.Mathlib.Nat.{mod-lt, lt_trans}
 use native.Mathlib.Decide.{ℕ_discrete}
 use native.Mathlib.Omega.{arith}
 use borrow.Author.Tests.{ltb-true, eqb-true}
+use Rattle.std.specs.Prelude.{Option, Some, None}
 use lib.Dec.{ltb, eqb, lit<}
 use lib.ListN.{length, get_or, set, get_or-replicate}
 use lib.Seq.{get_or-set_same, get_or-set_other}
 use Rattle.laws.specs.Refusal.{written}
-use Rattle.field.specs.declared.Chosen.{Chosen}
-use Rattle.pulldown.specs.declared.Symbol.{Symbol}
+use Rattle.field.specs.declared.Parity.{Parity}
 use Rattle.pulldown.specs.declared.Symbol.TheVariants.{Still, Moved, RepeatFirst, RepeatSecond}
-use Rattle.pulldown.specs.declared.Seen.{Seen}
-use Rattle.pulldown.specs.declared.Seen.TheVariants as seen
+use Rattle.pulldown.specs.declared.Symbol.{Symbol}
 use Rattle.pulldown.specs.Symbols.{symbol_number, same_symbol}
 use Rattle.pulldown.specs.Runs.{Frame, frame_of, step_of, contradicts}
 use Rattle.pulldown.specs.Lock.{candidate_of, locked_by, phase_after, stills_after, place, held_with, window_with, phase_left, fresh_lock, advance_of}
@@ -68,10 +67,10 @@ one_more n h = lt_trans (next_below n h) (lit< tt)
     next_below n h = omega arith
 
 pub advanced_sized :
-    (d : Detector) (s : Seen) (kept : Kept) (last : Chosen) → Sized d → d.lock.course.taken < 4000000000 → kept.width < 65536 → kept.height < 65536 →
+    (d : Detector) (s : Option Symbol) (kept : Kept) (last : Option Parity) → Sized d → d.lock.course.taken < 4000000000 → kept.width < 65536 → kept.height < 65536 →
     Sized (record { lock = advance_of d.lock s; kept = kept; last = last })
 unfolding advance_of
-advanced_sized d seen.NotComparable kept last z few width height = record {
+advanced_sized d None kept last z few width height = record {
   ring = z.ring;
   symbols = z.symbols;
   next = z.next;
@@ -83,12 +82,12 @@ advanced_sized d seen.NotComparable kept last z few width height = record {
   width = width;
   height = height;
 }
-advanced_sized d (seen.Symbol s) kept last z few width height =
+advanced_sized d (Some s) kept last z few width height =
     let l = d.lock in
     let left = phase_left l s in
     let frame = frame_of l.course.taken s in
     record {
-      ring = advanced_ring l (seen.Symbol s) z.ring;
+      ring = advanced_ring l (Some s) z.ring;
       symbols = λ i below. set_below l.ring (place l) (symbol_number s) (rw z.ring (mod-lt l.course.next (lit< tt))) (symbol_below s) i (z.symbols i below);
       next = lt_trans (mod-lt (place l + 1) (lit< tt)) (lit< tt);
       held = either_below (2 ^ 64) (contradicts left frame) 0 (held_with l) (lit< tt) (min_below (2 ^ 64) 15 (l.course.held + 1) (lit< tt));
@@ -101,7 +100,7 @@ advanced_sized d (seen.Symbol s) kept last z few width height =
     }
 
 -- ---- what the claims end with
-pub fresh_with : (last : Chosen) → Sized (record { lock = fresh_lock; kept = nothing_kept; last = last })
+pub fresh_with : (last : Option Parity) → Sized (record { lock = fresh_lock; kept = nothing_kept; last = last })
 fresh_with last = record {
   ring = refl;
   symbols = λ i below. rw (get_or-replicate {A = ℕ} 15 i 0 0 below) (lit< tt);

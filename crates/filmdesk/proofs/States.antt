@@ -5,6 +5,7 @@ use mathlib.Core.Bool.{Bool, true, false, not}
 use mathlib.Core.List.{List, [], ◌∷◌, ◌++◌, append_assoc}
 use native.Mathlib.Nat.{mod-lt, mod-eq_of_lt, lt_trans, lt_of_le_of_lt}
 use native.Mathlib.Omega.{arith}
+use Rattle.std.specs.Prelude.{Option, Some, None}
 use lib.Dec.{eqb, lit<}
 use lib.ListN.{length, get_or, drop, get_or-append, length-append}
 use lib.Seq.{get_or-append-add, get_or-append_seam, drop-append_seam}
@@ -12,8 +13,6 @@ use Rattle.laws.specs.Refusal.{rising}
 use Rattle.laws.proofs.Refusal.{all_pass}
 use Rattle.laws.proofs.Digits.{digits_below}
 use Rattle.laws.proofs.Lists.{listed_at, listed_again, same_listed}
-use Rattle.field.specs.declared.Chosen.{Chosen}
-use Rattle.field.specs.declared.Chosen.TheVariants as chosen
 use Rattle.field.specs.declared.Parity.{Parity}
 use Rattle.field.specs.declared.Parity.TheVariants as parity
 use Rattle.field.specs.Field.{first_row_of, parity_named}
@@ -38,10 +37,10 @@ first_back : (p : Parity) → parity_named (first_row_of p) ≡ p
 first_back parity.Top = refl
 first_back parity.Bottom = refl
 
-last_back : (c : Chosen) → chosen_named (chosen_number c) ≡ c
-last_back chosen.Neither = refl
-last_back (chosen.Field parity.Top) = refl
-last_back (chosen.Field parity.Bottom) = refl
+last_back : (c : Option Parity) → chosen_named (chosen_number c) ≡ c
+last_back None = refl
+last_back (Some parity.Top) = refl
+last_back (Some parity.Bottom) = refl
 
 held_small : (b : Bool) → number_if b < 2 ^ 64
 held_small true = lit< tt
@@ -51,10 +50,10 @@ first_small : (p : Parity) → first_row_of p < 2 ^ 64
 first_small parity.Top = lit< tt
 first_small parity.Bottom = lit< tt
 
-last_small : (c : Chosen) → chosen_number c < 2 ^ 64
-last_small chosen.Neither = lit< tt
-last_small (chosen.Field parity.Top) = lit< tt
-last_small (chosen.Field parity.Bottom) = lit< tt
+last_small : (c : Option Parity) → chosen_number c < 2 ^ 64
+last_small None = lit< tt
+last_small (Some parity.Top) = lit< tt
+last_small (Some parity.Bottom) = lit< tt
 
 -- ---- a detector that was written is found again
 
@@ -139,7 +138,7 @@ always_sized bytes small = record {
 
 -- ---- and so has what a call makes of such a detector
 pub fresh_sized : FreshSized
-fresh_sized = fresh_with chosen.Neither
+fresh_sized = fresh_with None
 
 pub reset_sized : ResetSized
 reset_sized d = fresh_with d.last
@@ -149,12 +148,12 @@ measured_sized d first m z =
     written_sized (measured_no d) _ d z
     (λ none.
     let few = few_taken (record { detector = d; store = [] }) (measured first m) none in
-    advanced_sized d (seen_measured d.last first m) d.kept (chosen.Field first) z few z.width z.height)
+    advanced_sized d (seen_measured d.last first m) d.kept (Some first) z few z.width z.height)
 
 pub push_sized : PushSized
 unfolding rising
 push_sized d store plane s first z = written_sized (push_no d s (length plane) (length store)) _ d z (λ none.
     let within = good_within s (all_pass (push_tests d s (length plane) (length store)) tt none).0 in
     let few = few_taken (record { detector = d; store = store }) (picture plane s first) none in
-    advanced_sized d (seen_picture d.kept store plane s first) (kept_as s first) (chosen.Field first) z few
+    advanced_sized d (seen_picture d.kept store plane s first) (kept_as s first) (Some first) z few
     (lt_of_le_of_lt within.width_most (lit< tt)) (lt_of_le_of_lt within.height_most (lit< tt)))

@@ -1,5 +1,5 @@
 -- What the exported functions' contracts come to. proofs/Claims.antt proves each claim under its name in small letters.
-use Rattle.std.specs.Prelude.{ℕ, ◌+◌, ◌≤◌, ◌<◌, ◌^◌, ◌≡◌, ◌↔◌, List, ◌∷◌, length, get_or}
+use Rattle.std.specs.Prelude.{ℕ, ◌+◌, ◌≤◌, ◌<◌, ◌^◌, ◌≡◌, ◌↔◌, List, ◌∷◌, Option, length, get_or}
 use Rattle.laws.specs.Refusal.{lowest, Says}
 use Rattle.field.specs.declared.Cadence.{Cadence}
 use Rattle.field.specs.declared.Parity.{Parity}
@@ -47,7 +47,7 @@ abbrev pub ResetSized : Type 0
 ResetSized = (d : Detector) → Sized (reset_of d)
 
 abbrev pub MeasuredSized : Type 0
-MeasuredSized = (d : Detector) (first : Parity) (m : Measured) → Sized d → Sized (measured_detector d first m)
+MeasuredSized = (d : Detector) (first : Parity) (m : Option Measured) → Sized d → Sized (measured_detector d first m)
 
 abbrev pub PushSized : Type 0
 PushSized = (d : Detector) (store plane : List ℕ) (s : Shape) (first : Parity) → Sized d → Sized (push_detector d store plane s first)

@@ -1,6 +1,6 @@
 -- Counts and the detector by number (docs/RULES.md, "Blocks and symbols", "What the desk gets back"). A state shorter than 96 bytes is a lent
 -- input that is too short, 6; where it is only written, an output, 7.
-use Rattle.std.specs.Prelude.{ℕ, ◌*◌, Bool, cond, ◌&&◌, List, [], ◌∷◌, leb, eqb}
+use Rattle.std.specs.Prelude.{ℕ, ◌*◌, Bool, cond, ◌&&◌, List, [], ◌∷◌, Option, Some, None, leb, eqb}
 use Rattle.laws.specs.Refusal.{lowest}
 use Rattle.plane.specs.declared.Shape.{Shape}
 use Rattle.plane.specs.Plane.{good_shape, plane_bytes, grid_shape}
@@ -8,7 +8,6 @@ use Rattle.numbers.specs.declared.GridNumbers.{GridNumbers}
 use Rattle.numbers.specs.Numbers.{grid_named}
 use Rattle.block.specs.Answer.{count_tests}
 use Rattle.telecine.specs.declared.Measured.{Measured}
-use Rattle.telecine.specs.declared.Measured.TheVariants as measured
 use Rattle.telecine.specs.declared.Detector.{Detector}
 use Rattle.telecine.specs.Detector.{kept_bytes, measured_tests}
 use Rattle.filmdesk.specs.Kept.{state_bytes}
@@ -44,9 +43,9 @@ abbrev pub predict_state_no : ℕ → ℕ → ℕ
 predict_state_no state ahead = lowest (predict_state_tests state ahead)
 
 -- present 0 is no counts, 1 those that follow
-abbrev pub measured_named : ℕ → ℕ → ℕ → ℕ → ℕ → Measured
+abbrev pub measured_named : ℕ → ℕ → ℕ → ℕ → ℕ → Option Measured
 measured_named present busy total other-busy other-total =
-    cond (eqb present 0) measured.Absent (measured.Counts (record { busy = busy; total = total }) (record { busy = other-busy; total = other-total }))
+    cond (eqb present 0) None (Some (record { leading = record { busy = busy; total = total }; trailing = record { busy = other-busy; total = other-total } }))
 
 -- 3: parity or present is neither 0 nor 1
 abbrev pub measured_state_tests : ℕ → ℕ → ℕ → Detector → List (ℕ × Bool)

@@ -1,13 +1,12 @@
 -- Histories of the exported calls on a detector, from `desk_detector_new` on, with the state and the store lent back as they were left. First what
 -- the calls leave, by the definitions that their contracts cite; then, by the host's own numbers, the frames that it gave. Lists of calls are
 -- newest first.
-use Rattle.std.specs.Prelude.{ℕ, ◌≡◌, Bool, cond, ◌&&◌, List, [], ◌∷◌, leb, eqb, length}
+use Rattle.std.specs.Prelude.{ℕ, ◌≡◌, Bool, cond, ◌&&◌, List, [], ◌∷◌, Some, None, leb, eqb, length}
 use Rattle.field.specs.declared.Cadence.{Cadence}
-use Rattle.field.specs.declared.Cadence.TheVariants.{None, Whole, Drop, Spanning}
+use Rattle.field.specs.declared.Cadence.TheVariants as cadence
 use Rattle.field.specs.declared.Parity.{Parity}
 use Rattle.field.specs.declared.Parity.TheVariants.{Top, Bottom}
 use Rattle.plane.specs.declared.Layout.TheVariants.{Planar}
-use Rattle.telecine.specs.declared.Measured.TheVariants as measured
 use Rattle.telecine.specs.History as calls
 use Rattle.numbers.specs.declared.GridNumbers.{GridNumbers}
 use Rattle.filmdesk.specs.Kept.{detector_in}
@@ -91,14 +90,14 @@ frame_of (picture parity plane n) =
     calls.picture plane (record { width = n.width; height = n.height; depth = n.depth; stride = n.stride; layout = Planar }) (parity_given parity)
 frame_of (counts parity present busy total other-busy other-total) =
     calls.measured (parity_given parity)
-    (cond (eqb present 0) measured.Absent (measured.Counts (record { busy = busy; total = total }) (record { busy = other-busy; total = other-total })))
+    (cond (eqb present 0) None (Some (record { leading = record { busy = busy; total = total }; trailing = record { busy = other-busy; total = other-total } })))
 
 -- the byte that stands for a cadence
 abbrev pub byte_of : Cadence → ℕ
-byte_of None = 0
-byte_of Whole = 1
-byte_of Drop = 2
-byte_of Spanning = 3
+byte_of cadence.None = 0
+byte_of cadence.Whole = 1
+byte_of cadence.Drop = 2
+byte_of cadence.Spanning = 3
 
 -- the frames and resets since the last `new`; a frame that nothing names is none
 abbrev pub calls_of : List Call → List calls.Call

@@ -1,6 +1,6 @@
 -- What inner functions promise. Only their contracts cite it.
-use Rattle.std.specs.Prelude.{ℕ, Bool, List, [], ◌∷◌, leb}
-use Rattle.field.specs.declared.Chosen.{Chosen}
+use Rattle.std.specs.Prelude.{ℕ, Bool, List, [], ◌∷◌, Option, leb}
+use Rattle.field.specs.declared.Parity.{Parity}
 use Rattle.plane.specs.declared.Shape.{Shape}
 use Rattle.plane.specs.Plane.{good_shape}
 use Rattle.pulldown.specs.declared.Course.{Course}
@@ -14,5 +14,5 @@ abbrev pub first_tests : ℕ → Shape → ℕ → List (ℕ × Bool)
 first_tests parity s state = (3, leb parity 1) ∷ (4, good_shape s) ∷ (6, leb state_bytes state) ∷ []
 
 -- a detector by its parts
-abbrev pub detector_with : List ℕ → Course → Kept → Chosen → Detector
+abbrev pub detector_with : List ℕ → Course → Kept → Option Parity → Detector
 detector_with ring c kept last = record { lock = lock_with ring c; kept = kept; last = last }

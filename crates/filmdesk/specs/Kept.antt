@@ -1,9 +1,8 @@
 -- A detector kept in lent bytes between calls: ten numbers of eight bytes, the ring's fifteen bytes, and the phase. Every list of bytes is some
 -- detector, so that no call has to trust what it is lent.
-use Rattle.std.specs.Prelude.{ℕ, ◌+◌, ◌%◌, Bool, true, false, cond, not, List, [], ◌∷◌, ◌++◌, eqb, get_or}
+use Rattle.std.specs.Prelude.{ℕ, ◌+◌, ◌%◌, Bool, true, false, cond, not, List, [], ◌∷◌, ◌++◌, Option, Some, None, eqb, get_or}
 use Rattle.laws.specs.Rows.{listed, over}
-use Rattle.field.specs.declared.Chosen.{Chosen}
-use Rattle.field.specs.declared.Chosen.TheVariants as chosen
+use Rattle.field.specs.declared.Parity.{Parity}
 use Rattle.field.specs.Field.{first_row_of, parity_named}
 use Rattle.packed.specs.Packed.{packed_of, number_at}
 use Rattle.telecine.specs.declared.Detector.{Detector}
@@ -17,12 +16,12 @@ number_if true = 1
 number_if false = 0
 
 -- the remembered parity: 0 none, 1 top, 2 bottom
-abbrev pub chosen_number : Chosen → ℕ
-chosen_number chosen.Neither = 0
-chosen_number (chosen.Field parity) = first_row_of parity + 1
+abbrev pub chosen_number : Option Parity → ℕ
+chosen_number None = 0
+chosen_number (Some parity) = first_row_of parity + 1
 
-abbrev pub chosen_named : ℕ → Chosen
-chosen_named n = cond (eqb n 0) chosen.Neither (chosen.Field (cond (eqb n 1) (parity_named 0) (parity_named 1)))
+abbrev pub chosen_named : ℕ → Option Parity
+chosen_named n = cond (eqb n 0) None (Some (cond (eqb n 1) (parity_named 0) (parity_named 1)))
 
 -- the numbers of a detector: of the lock, of the kept frame's shape, of the last parity
 abbrev pub detector_numbers : Detector → List ℕ

@@ -1,6 +1,6 @@
 -- What each call on a detector leaves in what the host lends: in the state, in the store, and in the byte that gets the answer. `number` is the number
 -- that the call gets. The contracts cite these, and so do histories of calls.
-use Rattle.std.specs.Prelude.{ℕ, List}
+use Rattle.std.specs.Prelude.{ℕ, List, Option}
 use Rattle.laws.specs.Refusal.{written}
 use Rattle.field.specs.Field.{parity_named, cadence_number}
 use Rattle.pulldown.specs.Lock.{locked_of, predict_cadence}
@@ -24,10 +24,10 @@ abbrev pub foretold_byte : ℕ → List ℕ → ℕ → ℕ → ℕ
 foretold_byte number state ahead byte = written number (cadence_number (predict_cadence (detector_in state).lock ahead)) byte
 
 -- ---- push_measured
-abbrev pub measured_state : ℕ → List ℕ → ℕ → Measured → List ℕ
+abbrev pub measured_state : ℕ → List ℕ → ℕ → Option Measured → List ℕ
 measured_state number state parity m = written number (keeping (measured_detector (detector_in state) (parity_named parity) m) state) state
 
-abbrev pub measured_byte : ℕ → List ℕ → ℕ → Measured → ℕ → ℕ
+abbrev pub measured_byte : ℕ → List ℕ → ℕ → Option Measured → ℕ → ℕ
 measured_byte number state parity m byte = written number (cadence_number (measured_cadence (detector_in state) (parity_named parity) m)) byte
 
 -- ---- push

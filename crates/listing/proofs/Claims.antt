@@ -31,7 +31,7 @@ heard_text : (said : Said) (more : List Said) → text_of said ++ text_of_all mo
 heard_text Quiet more = refl
 heard_text (Frame n c locked) more = refl
 heard_text (Totals t) more = refl
-heard_text (Fault n) more = refl
+heard_text (Fault why) more = refl
 
 text_of_turns : (k : ℕ) (r : Reel) (store bytes : List ℕ) → written_in k r store bytes ≡ text_of_all (said_in k r store bytes)
 text_of_turns zero r store bytes = refl

@@ -5,10 +5,12 @@ use native.Mathlib.Omega.{arith}
 use mathlib.Core.Path.{◌≡◌, refl, ap₂}
 use mathlib.Core.Bool.{Bool, true, false, cond}
 use mathlib.Core.List.{List, []}
+use Rattle.std.specs.Prelude.{Option}
 use lib.Dec.{eqb, leb}
 use lib.ListN.{length}
 use borrow.Author.Tests.{eqb-true, eqb-false, ne_eqb, leb-true}
 use Rattle.laws.specs.Refusal.{lowest, rising}
+use Rattle.refusal.specs.declared.Refusal.TheVariants as refusal
 use Rattle.laws.proofs.Refusal.{all_pass}
 use Rattle.pages.specs.Claims.{Serves}
 use Rattle.pulldown.specs.Lock.{locked_of}
@@ -21,7 +23,7 @@ use Rattle.reel.specs.declared.Stage.{Stage}
 use Rattle.reel.specs.declared.Stage.TheVariants.{ShapeCount, ShapeNumbers, EntryCount, Entries, Pictures, Done}
 use Rattle.reel.specs.declared.Reel.{Reel}
 use Rattle.reel.specs.declared.Next.{Next}
-use Rattle.reel.specs.Reel.{entry_tests, picture_bytes, picture_count_tests, shape_tests}
+use Rattle.reel.specs.Reel.{entry_tests, picture_bytes, picture_count_tests, shape_tests, refused}
 use Rattle.reel.specs.Machine.{reel_of, want_at, want_of, tallied_in, state_of, picture_in, close, whole_of, judged_of, on_to, pushed_of, shape_count_of, shape_numbers_of, entry_count_of, entry_unit_of, picture_count_of, picture_unit_of, end_of, next_at, next_of, store_at, store_after}
 use Rattle.reel.proofs.Fine.{Fine, given_fine, given_if, some_picture}
 use Rattle.listing.specs.Listing.{text_of}
@@ -30,7 +32,7 @@ use Rattle.listing.specs.Steps.{Fed, reel_machine}
 -- ---- the states that a file leads to
 
 -- a picture that may come has some bytes, and no more than 16,384
-abbrev good_at : Stage → Pictured → Type 0
+abbrev good_at : Stage → Option Pictured → Type 0
 good_at ShapeCount p = Unit {0}
 good_at ShapeNumbers p = Unit {0}
 good_at EntryCount p = Unit {0}
@@ -55,11 +57,11 @@ some : (n : ℕ) → eqb n 0 ≡ false → 0 < n
 some zero e = absurd (eqb-false 0 0 e refl)
 some (suc n) e = omega arith
 
-picture_held : (n : ℕ) (p : Pictured) (b : Bool) → eqb n 0 ≡ b → good_at (Pictures n) p → cond b 1 (picture_bytes p) ≤ 16384
+picture_held : (n : ℕ) (p : Option Pictured) (b : Bool) → eqb n 0 ≡ b → good_at (Pictures n) p → cond b 1 (picture_bytes p) ≤ 16384
 picture_held n p true e g = omega arith
 picture_held n p false e g = (g (some n e)).1
 
-held_at : (stage : Stage) (p : Pictured) → good_at stage p → want_at stage p ≤ 16384
+held_at : (stage : Stage) (p : Option Pictured) → good_at stage p → want_at stage p ≤ 16384
 held_at ShapeCount p g = omega arith
 held_at ShapeNumbers p g = omega arith
 held_at EntryCount p g = omega arith
@@ -73,7 +75,7 @@ one_or : (b : Bool) (x y : ℕ) → 1 ≤ x → 1 ≤ y → 1 ≤ cond b x y
 one_or true x y h k = h
 one_or false x y h k = k
 
-picture_some : (n : ℕ) (p : Pictured) (b : Bool) → eqb n 0 ≡ b → good_at (Pictures n) p → 1 ≤ cond b 1 (picture_bytes p)
+picture_some : (n : ℕ) (p : Option Pictured) (b : Bool) → eqb n 0 ≡ b → good_at (Pictures n) p → 1 ≤ cond b 1 (picture_bytes p)
 picture_some n p true e g = omega arith
 picture_some n p false e g = (g (some n e)).0
 
@@ -104,16 +106,16 @@ closed : (r : Reel) (said : Said) → GoodReel r → GoodNext (close r said)
 closed r said g = record { fine = g.fine; at = tt }
 
 whole_good : (r : Reel) (k : ℕ) (unit : List ℕ) (more : Next) → GoodReel r → GoodNext more → GoodNext (whole_of r k unit more)
-whole_good r k unit more g h = chosen (leb k (length unit)) more (close r (Fault 6)) (λ e. h) (λ e. closed r Quiet g)
+whole_good r k unit more g h = chosen (leb k (length unit)) more (close r (Fault refusal.ShortInput)) (λ e. h) (λ e. closed r Quiet g)
 
 judged_good : (r : Reel) (tests : List (ℕ × Bool)) (more : Next) → GoodReel r → (lowest tests ≡ 0 → GoodNext more) → GoodNext (judged_of r tests more)
-judged_good r tests more g h = chosen (eqb (lowest tests) 0) more (close r (Fault (lowest tests))) (λ e. h (eqb-true (lowest tests) 0 e)) (λ e. closed r Quiet g)
+judged_good r tests more g h = chosen (eqb (lowest tests) 0) more (close r (Fault (refused (lowest tests)))) (λ e. h (eqb-true (lowest tests) 0 e)) (λ e. closed r Quiet g)
 
 first_on : (r : Reel) (b : Bool) → GoodReel r → GoodNext (on_to r (cond b EntryCount ShapeNumbers))
 first_on r true g = record { fine = g.fine; at = tt }
 first_on r false g = record { fine = g.fine; at = tt }
 
-small_picture : (p : Pictured) (n : ℕ) → lowest (picture_count_tests p n) ≡ 0 → 0 < n → picture_bytes p ≤ 16384
+small_picture : (p : Option Pictured) (n : ℕ) → lowest (picture_count_tests p n) ≡ 0 → 0 < n → picture_bytes p ≤ 16384
 unfolding rising
 small_picture p n e h =
     leb-true (picture_bytes p) 16384
@@ -127,7 +129,7 @@ pushed_good : (r : Reel) (stage : Stage) (store : List ℕ) (u : Push) → GoodR
 unfolding pushed_of
 pushed_good r stage store u g a = frames (eqb (number_in (state_of r store) u) 0)
   where
-    frames : (b : Bool) → GoodNext (cond b (record { reel = reel_of stage r.pictured (next (state_of r store) (push u)).detector (tallied_in (cadence_in (state_of r store) u) r.tally); said = Frame r.detector.lock.course.taken (cadence_in (state_of r store) u) (locked_of (next (state_of r store) (push u)).detector.lock) }) (close r (Fault (number_in (state_of r store) u))))
+    frames : (b : Bool) → GoodNext (cond b (record { reel = reel_of stage r.pictured (next (state_of r store) (push u)).detector (tallied_in (cadence_in (state_of r store) u) r.tally); said = Frame r.detector.lock.course.taken (cadence_in (state_of r store) u) (locked_of (next (state_of r store) (push u)).detector.lock) }) (close r (Fault (refused (number_in (state_of r store) u)))))
     frames true = record { fine = g.fine; at = a }
     frames false = closed r Quiet g
 
@@ -154,7 +156,7 @@ picture_good r n store unit g a =
 end_good : (r : Reel) (unit : List ℕ) → GoodReel r → GoodNext (end_of r unit)
 unfolding end_of
 end_good r unit g =
-    chosen (eqb (length unit) 0) (close r (Totals r.tally)) (close r (Fault 3)) (λ e. closed r Quiet g) (λ e. closed r Quiet g)
+    chosen (eqb (length unit) 0) (close r (Totals r.tally)) (close r (Fault refusal.Outside)) (λ e. closed r Quiet g) (λ e. closed r Quiet g)
 
 good_at_lem : (stage : Stage) (r : Reel) (store unit : List ℕ) → GoodReel r → good_at stage r.pictured → GoodNext (next_at stage r store unit)
 unfolding shape_count_of shape_numbers_of entry_count_of

@@ -1,11 +1,13 @@
 -- Laws of texts that are put one after another into a list.
 use Prim.Native.Nat.{ℕ, ◌+◌, ◌≤◌}
 use native.Mathlib.Nat.{add_assoc, add-zero}
-use mathlib.Core.Path.{◌≡◌, ◌∙◌}
+use mathlib.Core.Path.{◌≡◌, sym, ◌∙◌}
 use mathlib.Core.List.{List, [], ◌++◌, append_assoc}
 use lib.ListN.{length, take, drop, length-append, take-append-drop}
+use native.Mathlib.Omega.{arith}
 use lib.Seq.{paste, take-append_seam, drop-append-add, drop-drop, take-length, take-append-add, length-take-le}
 use Rattle.pages.specs.Pages.{put}
+use Rattle.listing.specs.Lines.{Wrote}
 
 -- ---- a text, and another behind it
 seam : (front x y back : List ℕ)
@@ -24,30 +26,27 @@ put_put list at x y h =
     seam_at (take at list) x y (drop (at + length x) list) at (length-take-le at list h)
     ∙ simp (drop-drop, length-append, add_assoc)
 
--- byte by byte, as the loop writes
-pub pasted : (list : List ℕ) (at : ℕ) (x : List ℕ) → paste list at x (length x) ≡ put list at x
-unfolding put
-pasted list at x = simp (take-length, append_assoc)
-
 pub put_nothing : (list : List ℕ) (at : ℕ) → list ≡ put list at []
 unfolding put
 put_nothing list at = simp (add-zero, take-append-drop)
 
--- ---- `new` is `old` with x put at a place, and x ends at n
-pub record Wrote (old : List ℕ) (at : ℕ) (new : List ℕ) (n : ℕ) (x : List ℕ) : Type 0 where
-  pub ends : n ≡ at + length x
-  pub is : new ≡ put old at x
+-- ---- texts that were written, one behind another
 
-pub first : {old : List ℕ} {at : ℕ} {new : List ℕ} {n : ℕ} (x : List ℕ) → n ≡ at + length x → new ≡ put old at x → Wrote old at new n x
-first x e i = record { ends = e; is = i }
+pub wrote_nothing : (list : List ℕ) (at : ℕ) → Wrote list at list at []
+wrote_nothing list at = record { ends = sym (add-zero at); is = put_nothing list at }
 
-pub then : {old : List ℕ} {at : ℕ} {new newer : List ℕ} {m n : ℕ} {x : List ℕ} (y : List ℕ) → at ≤ length old → Wrote old at new m x
-    → n ≡ m + length y → newer ≡ put new m y
+pub then : {old : List ℕ} {at : ℕ} {new newer : List ℕ} {m n : ℕ} {x y : List ℕ} → at ≤ length old → Wrote old at new m x → Wrote new m newer n y
     → Wrote old at newer n (x ++ y)
-then {old} {at} {new} {newer} {m} {n} {x} y h w e q = record {
-  ends = simp (e, w.ends, length-append, add_assoc);
-  is = rw (q, w.is, w.ends) (put_put old at x y h);
+then {old} {at} {new} {newer} {m} {n} {x} {y} h v w = record {
+  ends = simp (w.ends, v.ends, length-append, add_assoc);
+  is = rw (w.is, v.is, v.ends) (put_put old at x y h);
 }
+
+-- a word, and a number of at most 20 digits behind it
+pub word_then : {old : List ℕ} {at : ℕ} {new newer : List ℕ} {m n : ℕ} {x y : List ℕ} → at + length x + 20 ≤ length old → Wrote old at new m x
+    → Wrote new m newer n y × (n ≤ m + 20)
+    → Wrote old at newer n (x ++ y) × (n ≤ at + length x + 20)
+word_then room v w = (then (omega arith) v w.0, omega arith)
 
 -- the parts of a line of totals
 regroup : (w a x b y c z d e : List ℕ)

@@ -2,66 +2,64 @@
 // step at a time.
 #![tactic(auto)]
 
-ghost use Rattle.std.specs.Prelude.{◌≡◌, ◌++◌, ◌+◌, ◌≤◌, max, leb, length};
+ghost use Rattle.std.specs.Prelude.{◌≡◌, ◌++◌, ◌+◌, ◌≤◌, max, length};
 ghost use Rattle.listing.specs.Listing.{decimal_of, cadence_word, lock_end, text_of, put_line, line_ends};
+ghost use Rattle.listing.specs.Lines.{Wrote};
 ghost use Rattle.listing.specs.Steps.{reel_machine, start_lister, came_lister, program_of, ask_from, step_from};
 ghost use Rattle.pages.specs.declared.Ask.TheVariants.{Unit};
-ghost use Rattle.pages.specs.Pages.{put};
 ghost use Rattle.pages.specs.Run.{stepped_by};
 
 use field::Cadence;
 use pages::{Ask, Held};
 use reel::{Reel, Said, Tally};
+use refusal::Refusal;
 
-// Puts a text at a place, and answers where it ends. So do the next five.
-fn add(out: &mut [u8], at: usize, text: &[u8]) -> usize
-    requires { at + length text.now ≤ length out.old }
-    ensures { (result ≡ at + length text.now) × (out.new ≡ put out.old at text.now) }
+// No line is longer.
+const LONGEST_LINE: usize = 128;
+
+fn cadence_word(cadence: Cadence) -> &'static [u8]
+    ensures { (result.now ≡ cadence_word cadence) × (length result.now ≤ 10) }
 {
-    let mut i: usize = 0;
-    while i < text.len() {
-        out[at + i] = text[i];
-        i = i + 1;
+    match cadence {
+        Cadence::None => b" none ",
+        Cadence::Whole => b" whole ",
+        Cadence::Drop => b" drop ",
+        Cadence::Spanning => b" spanning ",
     }
-    at + i
 }
 
+fn lock_end(locked: bool) -> &'static [u8]
+    ensures { (result.now ≡ lock_end locked) × (length result.now ≡ 2) }
+{
+    if locked { b"1\n" } else { b"0\n" }
+}
+
+// Puts a text at a place, and answers where it ends. So do the next five.
+#[tactic(auto, unfolding(pages::specs::Pages::put))]
+fn add(out: &mut [u8], at: usize, text: &[u8]) -> usize
+    requires { at + length text.now ≤ length out.old }
+    ensures { Wrote out.old at out.new result text.now }
+{
+    let end = at + text.len();
+    out[at..end].copy_from_slice(text);
+    end
+}
+
+#[tactic(auto, using(crate::proofs::Decimal::spelled, crate::proofs::Decimal::few))]
 fn add_number(out: &mut [u8], at: usize, n: u64) -> usize
     requires { at + 20 ≤ length out.old }
-    ensures { (result ≡ at + length (decimal_of n)) × (out.new ≡ put out.old at (decimal_of n)) × (result ≤ at + 20) }
+    ensures { Wrote out.old at out.new result (decimal_of n) × (result ≤ at + 20) }
 {
     let mut digits = [0u8; 20];
     let k = io::decimal(n, &mut digits);
     add(out, at, &digits[..k])
 }
 
-fn add_cadence(out: &mut [u8], at: usize, cadence: Cadence) -> usize
-    requires { at + 10 ≤ length out.old }
-    ensures { (result ≡ at + length (cadence_word cadence)) × (out.new ≡ put out.old at (cadence_word cadence)) × (result ≤ at + 10) }
-{
-    match cadence {
-        Cadence::None => add(out, at, b" none "),
-        Cadence::Whole => add(out, at, b" whole "),
-        Cadence::Drop => add(out, at, b" drop "),
-        Cadence::Spanning => add(out, at, b" spanning "),
-    }
-}
-
-fn add_lock(out: &mut [u8], at: usize, locked: bool) -> usize
-    requires { at + 2 ≤ length out.old }
-    ensures { (result ≡ at + length (lock_end locked)) × (out.new ≡ put out.old at (lock_end locked)) × (result ≤ at + 2) }
-{
-    if locked {
-        add(out, at, b"1\n")
-    } else {
-        add(out, at, b"0\n")
-    }
-}
-
 // A word, and a number.
+#[tactic(auto, using(crate::proofs::Texts::word_then))]
 fn add_part(out: &mut [u8], at: usize, word: &[u8], n: u64) -> usize
     requires { at + length word.now + 20 ≤ length out.old }
-    ensures { (result ≡ at + length (word.now ++ decimal_of n)) × (out.new ≡ put out.old at (word.now ++ decimal_of n)) × (result ≤ at + length word.now + 20) }
+    ensures { Wrote out.old at out.new result (word.now ++ decimal_of n) × (result ≤ at + length word.now + 20) }
 {
     let end = add(out, at, word);
     add_number(out, end, n)
@@ -69,24 +67,24 @@ fn add_part(out: &mut [u8], at: usize, word: &[u8], n: u64) -> usize
 
 fn frame_line(out: &mut [u8], at: usize, n: u64, cadence: Cadence, locked: bool) -> usize
     requires { at + 128 ≤ length out.old }
-    ensures { (result ≡ at + length (text_of (Said.Frame n cadence locked))) × (out.new ≡ put out.old at (text_of (Said.Frame n cadence locked))) × (result ≤ at + 128) }
+    ensures { Wrote out.old at out.new result (text_of (Said.Frame n cadence locked)) × (result ≤ at + 128) }
 {
     let number = add_number(out, at, n);
-    let word = add_cadence(out, number, cadence);
-    add_lock(out, word, locked)
+    let word = add(out, number, cadence_word(cadence));
+    add(out, word, lock_end(locked))
 }
 
-fn fault_line(out: &mut [u8], at: usize, no: u8) -> usize
+fn fault_line(out: &mut [u8], at: usize, refusal: Refusal) -> usize
     requires { at + 128 ≤ length out.old }
-    ensures { (result ≡ at + length (text_of (Said.Fault no))) × (out.new ≡ put out.old at (text_of (Said.Fault no))) × (result ≤ at + 128) }
+    ensures { Wrote out.old at out.new result (text_of (Said.Fault refusal)) × (result ≤ at + 128) }
 {
-    let number = add_part(out, at, b"refused ", no as u64);
+    let number = add_part(out, at, b"refused ", u64::from(refusal.number()));
     add(out, number, b"\n")
 }
 
 fn totals_line(out: &mut [u8], at: usize, tally: Tally) -> usize
     requires { at + 128 ≤ length out.old }
-    ensures { (result ≡ at + length (text_of (Said.Totals tally))) × (out.new ≡ put out.old at (text_of (Said.Totals tally))) × (result ≤ at + 128) }
+    ensures { Wrote out.old at out.new result (text_of (Said.Totals tally)) × (result ≤ at + 128) }
 {
     let whole = add_part(out, at, b"whole ", tally.whole);
     let drop = add_part(out, whole, b" drop ", tally.drop);
@@ -97,24 +95,13 @@ fn totals_line(out: &mut [u8], at: usize, tally: Tally) -> usize
 
 fn line(out: &mut [u8], at: usize, said: Said) -> usize
     requires { at + 128 ≤ length out.old }
-    ensures { (result ≡ at + length (text_of said)) × (out.new ≡ put out.old at (text_of said)) × (result ≤ at + 128) }
+    ensures { Wrote out.old at out.new result (text_of said) × (result ≤ at + 128) }
 {
     match said {
         Said::Quiet => at,
         Said::Frame(n, cadence, locked) => frame_line(out, at, n, cadence, locked),
         Said::Totals(tally) => totals_line(out, at, tally),
-        Said::Fault(no) => fault_line(out, at, no),
-    }
-}
-
-// Whether the longest line fits.
-fn line_fits(bytes: usize, at: usize) -> bool
-    ensures { result ≡ leb (at + 128) bytes }
-{
-    if at <= bytes {
-        128 <= bytes - at
-    } else {
-        false
+        Said::Fault(refusal) => fault_line(out, at, refusal),
     }
 }
 
@@ -126,16 +113,17 @@ pub fn write(out: &mut [u8], at: usize, said: Said) -> usize
     ensures out_after { out.new ≡ put_line out.old at said }
     ensures upper_bound { result ≤ max at (length out.old) }
 {
-    if line_fits(out.len(), at) {
-        return line(out, at, said);
+    if LONGEST_LINE <= out.len().saturating_sub(at) {
+        line(out, at, said)
+    } else {
+        at
     }
-    at
 }
 
 // ---- the program, a step at a time
 
 // What the program `cadence` has between two steps, beside its buffer, its store and its page.
-#[derive(Clone, Copy)]
+#[derive(Clone, Copy, Debug, PartialEq, Eq)]
 pub struct Lister {
     pub reel: Reel,
     // What of the buffer is held.
@@ -147,60 +135,47 @@ pub struct Lister {
 }
 
 // What a step leaves, and what has to be done before the next one.
-#[derive(Clone, Copy)]
+#[derive(Clone, Copy, Debug, PartialEq, Eq)]
 pub struct Step {
     pub lister: Lister,
     pub ask: Ask,
 }
 
 impl Lister {
-    pub fn start() -> Lister
+    pub fn start() -> Self
         ensures { result ≡ start_lister }
     {
-        let reel = Reel::start();
-        let held = Held::nothing();
-        Lister {
-            reel: reel,
-            held: held,
+        Self {
+            reel: Reel::start(),
+            held: Held::nothing(),
             used: 0,
             ended: false,
         }
     }
 
     // After a read put n bytes into the buffer, behind what is held; where none came, the input has ended.
-    pub fn came(self, buffer: &[u8], n: usize) -> Lister
+    pub fn came(self, buffer: &[u8], n: usize) -> Self
         ensures { result ≡ came_lister self (length buffer.now) n }
     {
-        let reel = self.reel;
-        let old = self.held;
-        let held = old.came(buffer, n);
-        Lister {
-            reel: reel,
-            held: held,
-            used: self.used,
+        Self {
+            held: self.held.came(buffer, n),
             ended: n == 0,
+            ..self
         }
     }
 
     // The next unit is read, and its line written.
-    fn unit(self, buffer: &[u8], store: &mut [u8], page: &mut [u8]) -> Lister
+    fn unit(self, buffer: &[u8], store: &mut [u8], page: &mut [u8]) -> Self
         requires { self.used + 128 ≤ length page.old }
         ensures { program_of result buffer.now store.new page.new ≡ stepped_by reel_machine Unit (program_of self buffer.now store.old page.old) }
     {
-        let reel = self.reel;
-        let old = self.held;
-        let used = self.used;
-        let want = reel.want() as usize;
-        let next = reel.next(store, old.unit(buffer, want));
-        let then = next.reel;
-        let said = next.said;
-        let end = line(page, used, said);
-        let held = old.without(want);
-        Lister {
-            reel: then,
-            held: held,
-            used: end,
-            ended: self.ended,
+        let want = self.reel.want() as usize;
+        let next = self.reel.next(store, self.held.unit(buffer, want));
+        Self {
+            reel: next.reel,
+            held: self.held.without(want),
+            used: line(page, self.used, next.said),
+            ..self
         }
     }
 
@@ -210,46 +185,26 @@ impl Lister {
         ensures ask_value { result.ask ≡ ask_from self buffer.old store.old page.old }
         ensures page_after { program_of result.lister buffer.new store.new page.new ≡ step_from self buffer.old store.old page.old }
     {
-        let reel = self.reel;
-        let held = self.held;
-        let used = self.used;
-        let ended = self.ended;
-        let have = held.count(buffer);
-        let want = reel.want() as usize;
-        let ask = pages::next(have, ended, want, used, 128, page.len());
+        let have = self.held.count(buffer);
+        let want = self.reel.want() as usize;
+        let ask = pages::next(have, self.ended, want, self.used, LONGEST_LINE, page.len());
         match ask {
-            Ask::Unit => {
-                let lister = self.unit(buffer, store, page);
-                Step {
-                    lister: lister,
-                    ask: ask,
-                }
-            }
-            Ask::Read(_) => {
-                let front = held.front(buffer);
-                Step {
-                    lister: Lister {
-                        reel: reel,
-                        held: front,
-                        used: used,
-                        ended: ended,
-                    },
-                    ask: ask,
-                }
-            }
-            Ask::Write(_) => Step {
-                lister: Lister {
-                    reel: reel,
-                    held: held,
-                    used: 0,
-                    ended: ended,
+            Ask::Unit => Step {
+                lister: self.unit(buffer, store, page),
+                ask,
+            },
+            Ask::Read(_) => Step {
+                lister: Self {
+                    held: self.held.front(buffer),
+                    ..self
                 },
-                ask: ask,
+                ask,
             },
-            Ask::Stop => Step {
-                lister: self,
-                ask: ask,
+            Ask::Write(_) => Step {
+                lister: Self { used: 0, ..self },
+                ask,
             },
+            Ask::Stop => Step { lister: self, ask },
         }
     }
 }

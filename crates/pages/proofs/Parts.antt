@@ -1,14 +1,14 @@
 -- Laws of what is held, a part of a list, and of what is asked for.
-use Prim.Native.Nat.{ℕ, zero, suc, ◌+◌, ◌-◌, ◌≤◌, ◌<◌, min}
-use native.Mathlib.Nat.{add_comm, zero-add, zero-sub}
+use Prim.Native.Nat.{ℕ, zero, suc, ◌+◌, ◌-◌, ◌≤◌, min}
+use native.Mathlib.Nat.{zero-add, zero-sub}
 use native.Mathlib.Omega.{arith}
-use native.Mathlib.Numerals.{unary_clauses, add-one}
+use native.Mathlib.Numerals.{unary_clauses}
 use mathlib.Core.Path.{◌≡◌, refl, sym, ap, ◌∙◌}
 use mathlib.Core.Bool.{Bool, true, false, cond, ◌||◌, true≢false}
 use mathlib.Core.List.{List, [], ◌∷◌, ◌++◌}
 use lib.Dec.{leb, eqb}
-use lib.ListN.{length, take, drop, get_or, set, length-take, length-drop}
-use lib.Seq.{slice, paste, take-length, take-nil, drop-nil, drop-drop, paste-suc, drop-paste, get_or-drop, length-take-le}
+use lib.ListN.{length, take, drop, length-take, length-drop}
+use lib.Seq.{slice, paste, take-length, take-nil, drop-nil, drop-drop}
 use Rattle.laws.specs.Rows.{over}
 use borrow.Author.Tests.{leb-true}
 use Rattle.pages.specs.declared.Ask.{Ask}
@@ -49,35 +49,21 @@ whole f t l =
     ∙ ap (λ (n : ℕ). take n (drop f l)) few
     ∙ ap (λ (part : List ℕ). take (length part) (drop f l)) (sym (part_is f t l))
 
--- The shift's loop: after i turns the first i places hold the part's first i bytes. The place read next has not been written to.
-pub unread : (old : List ℕ) (from i : ℕ) → i ≤ length (drop from old)
-    → get_or (paste old 0 (drop from old) i) (from + i) 0 ≡ get_or (drop from old) i 0
-unread old from i h =
-    ap (λ (k : ℕ). get_or (paste old 0 (drop from old) i) k 0) (add_comm from i)
-    ∙ sym (get_or-drop i (paste old 0 (drop from old) i) from 0)
-    ∙ ap (λ (k : ℕ). get_or (drop k (paste old 0 (drop from old) i)) from 0) (sym (zero-add i))
-    ∙ ap (λ (l : List ℕ). get_or l from 0) (drop-paste old 0 (drop from old) i (omega arith) h)
-    ∙ ap (λ (k : ℕ). get_or (drop k old) from 0) (zero-add i)
-    ∙ get_or-drop i old from 0
-    ∙ ap (λ (k : ℕ). get_or old k 0) (add_comm i from)
-    ∙ sym (get_or-drop from old i 0)
+-- what is held starts where it is said to, or has no byte
+same_part : (f t : ℕ) (l : List ℕ) {start : ℕ} → start ≡ min f (min t (length l)) → (n : ℕ) → length (slice f t l) ≡ n → take n (drop start l) ≡ slice f t l
+same_part f t l s zero e = sym (none (slice f t l) e)
+same_part f t l s (suc n) e =
+    let from : min f (min t (length l)) ≡ f = omega (arith, length_part f t l) in
+    ap (λ (k : ℕ). take (suc n) (drop k l)) (s ∙ from) ∙ ap (λ (k : ℕ). take k (drop f l)) (sym e) ∙ sym (whole f t l)
 
-pub again : (old : List ℕ) (from i : ℕ) → i < length (drop from old) → i < length old
-    → set (paste old 0 (drop from old) i) i (get_or (paste old 0 (drop from old) i) (from + i) 0) ≡ paste old 0 (drop from old) (i + 1)
-again old from i inside place =
-    ap (λ (value : ℕ). set (paste old 0 (drop from old) i) i value) (unread old from i (omega arith))
-    ∙ ap (λ (k : ℕ). set (paste old 0 (drop from old) i) k (get_or (drop from old) i 0)) (sym (zero-add i))
-    ∙ paste-suc old 0 (drop from old) i 0 (omega arith) inside
-    ∙ ap (paste old 0 (drop from old)) (sym (add-one i))
-
-pub shifted : (old : List ℕ) (from n : ℕ) → n ≤ length old - from → paste old 0 (drop from old) n ≡ over (take n (drop from old)) old
-shifted old from n h = ap (λ (k : ℕ). take n (drop from old) ++ drop k old) (zero-add n ∙ sym (length-take-le n (drop from old) (rw length-drop h)))
-
--- a unit is cut off at the front of what is held
-pub units : (f t n : ℕ) (l : List ℕ) → take (min n (length (slice f t l))) (drop f l) ≡ take n (slice f t l)
-units f t n l =
-    sym (cut n (length (slice f t l)) (drop f l))
-    ∙ ap (take n) (sym (whole f t l))
+-- what is held, moved to the front
+pub fronted : (f t : ℕ) (l : List ℕ) {start end : ℕ} → end ≡ min t (length l) → start ≡ min f end
+    → paste l 0 (drop start l) (end - start) ≡ over (slice f t l) l
+fronted f t l {start} {end} e s =
+    let held : length (slice f t l) ≡ end - start = omega (arith, length_part f t l) in
+    let part : take (end - start) (drop start l) ≡ slice f t l = same_part f t l (s ∙ ap (min f) e) (end - start) held in
+    ap (λ (k : ℕ). take (end - start) (drop start l) ++ drop k l) (zero-add (end - start) ∙ sym held)
+    ∙ ap (λ (front : List ℕ). front ++ drop (length (slice f t l)) l) part
 
 -- a list of at most k has no more than k taken off
 fewer : (n k : ℕ) (l : List ℕ) → length l ≤ k → drop (min n k) l ≡ drop n l

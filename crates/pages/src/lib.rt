@@ -8,7 +8,7 @@ ghost use Rattle.laws.specs.Rows.{over};
 ghost use Rattle.pages.specs.Pages.{nothing_held, held_of, front_of, came_of, without_of, ask_of};
 
 // What was read and not yet used lies from one place of the buffer up to another.
-#[derive(Clone, Copy)]
+#[derive(Clone, Copy, Debug, PartialEq, Eq)]
 pub struct Held {
     pub from: usize,
     pub to: usize,
@@ -16,7 +16,7 @@ pub struct Held {
 
 // What has to be done next: a unit can be read; more has to come into the buffer from a place on; so
 // much of the page has to be written out; or nothing is left to do.
-#[derive(Clone, Copy)]
+#[derive(Clone, Copy, Debug, PartialEq, Eq)]
 pub enum Ask {
     Unit,
     Read(usize),
@@ -24,69 +24,43 @@ pub enum Ask {
     Stop,
 }
 
-// The smaller of two.
-pub fn least(a: usize, b: usize) -> usize
-    ensures { result ≡ min a b }
-{
-    if a < b { a } else { b }
-}
-
-// One less another, and 0 where that is larger.
-fn less(a: usize, b: usize) -> usize
-    ensures { result ≡ a - b }
-{
-    if b < a { a - b } else { 0 }
-}
-
-// Moves n bytes from a place to the front.
-fn shift(buffer: &mut [u8], from: usize, n: usize)
-    requires { n ≤ length buffer.old - from }
-    ensures { buffer.new ≡ over (take n (drop from buffer.old)) buffer.old }
-{
-    let mut i: usize = 0;
-    while i < n {
-        buffer[i] = buffer[from + i];
-        i = i + 1;
-    }
-}
-
 impl Held {
-    pub fn nothing() -> Held
+    pub fn nothing() -> Self
         ensures { result ≡ nothing_held }
     {
-        Held { from: 0, to: 0 }
+        Self { from: 0, to: 0 }
     }
 
     // How many bytes are held.
     pub fn count(self, buffer: &[u8]) -> usize
         ensures { result ≡ length (held_of self buffer.now) }
     {
-        let from = self.from;
-        let to = self.to;
-        less(least(to, buffer.len()), from)
+        self.to.min(buffer.len()).saturating_sub(self.from)
     }
 
     // Moves what is held to the front of the buffer. What lies behind stays.
-    pub fn front(self, buffer: &mut [u8]) -> Held
+    #[tactic(auto, using(crate::proofs::Parts::fronted))]
+    pub fn front(self, buffer: &mut [u8]) -> Self
         ensures value { result ≡ front_of self buffer.old }
         ensures buffer_after { buffer.new ≡ over (held_of self buffer.old) buffer.old }
     {
-        let n = self.count(buffer);
-        let from = self.from;
-        shift(buffer, from, n);
-        Held { from: 0, to: n }
+        let end = self.to.min(buffer.len());
+        let start = self.from.min(end);
+        buffer.copy_within(start..end, 0);
+        Self {
+            from: 0,
+            to: end - start,
+        }
     }
 
     // After n bytes came into the buffer, behind what is held; no more than there was room for.
-    pub fn came(self, buffer: &[u8], n: usize) -> Held
+    pub fn came(self, buffer: &[u8], n: usize) -> Self
         ensures { result ≡ came_of self (length buffer.now) n }
     {
-        let from = self.from;
-        let to = self.to;
-        let room = less(buffer.len(), to);
-        Held {
-            from: from,
-            to: to + least(n, room),
+        let room = buffer.len().saturating_sub(self.to);
+        Self {
+            to: self.to + n.min(room),
+            ..self
         }
     }
 
@@ -94,24 +68,19 @@ impl Held {
     pub fn unit<'a>(self, buffer: &'a [u8], n: usize) -> &'a [u8]
         ensures { result.now ≡ take n (held_of self buffer.now) }
     {
-        let have = self.count(buffer);
-        let from = self.from;
-        if have == 0 {
-            return &buffer[0..0];
-        }
-        let end = from + least(n, have);
-        &buffer[from..end]
+        let end = self.to.min(buffer.len());
+        let held = &buffer[self.from.min(end)..end];
+        &held[..n.min(held.len())]
     }
 
     // What is held after a unit of n bytes was used.
-    pub fn without(self, n: usize) -> Held
+    pub fn without(self, n: usize) -> Self
         ensures { result ≡ without_of self n }
     {
-        let from = self.from;
-        let to = self.to;
-        Held {
-            from: from + least(n, less(to, from)),
-            to: to,
+        let held = self.to.saturating_sub(self.from);
+        Self {
+            from: self.from + n.min(held),
+            ..self
         }
     }
 }
@@ -120,15 +89,12 @@ impl Held {
 pub fn has_room(page: usize, used: usize, most: usize) -> bool
     ensures { result ≡ leb (used + most) page }
 {
-    if used <= page {
-        most <= page - used
-    } else {
-        false
-    }
+    used <= page && most <= page - used
 }
 
 // What has to be done next: `have` bytes are held, the input has `ended` or not, the next unit has
 // `want` bytes, 0 for none, and `used` bytes of a page stand there, to which a unit adds at most `most`.
+#[tactic(auto, unfolding(crate::specs::Pages::ask_of))]
 pub fn next(have: usize, ended: bool, want: usize, used: usize, most: usize, page: usize) -> Ask
     ensures { result ≡ ask_of have ended want used most page }
 {

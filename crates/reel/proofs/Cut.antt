@@ -25,7 +25,6 @@ grid_of s = record { width = s.width; height = s.height; depth = s.depth; stride
 pub uncut : (u : List ℕ) → lowest (shape_tests u) ≡ 0 → cut_pictured u ≡ pictured_in u
 unfolding rising
 uncut u done = λ i. record {
-  given = true;
   shape = grid_of (cut_same (grid_shape (shape_in u)) (all_pass (shape_tests u) tt done).1.0 i);
   first = parity_named (word_at u 8);
 }

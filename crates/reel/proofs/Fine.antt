@@ -5,6 +5,8 @@ use native.Mathlib.Omega.{arith}
 use mathlib.Core.Path.{◌≡◌, sym}
 use mathlib.Core.Bool.{Bool, true, false, cond, ◌||◌, true≢false}
 use mathlib.Core.List.{List}
+use Rattle.std.specs.Prelude.{Option, Some, None}
+use Rattle.std.specs.Option.{is_some}
 use lib.Dec.{eqb, leb}
 use borrow.Author.Tests.{ne_eqb}
 use Rattle.laws.specs.Refusal.{lowest, rising}
@@ -15,12 +17,12 @@ use Rattle.plane.specs.declared.Layout.TheVariants.{Planar, Luma, First, Second}
 use Rattle.plane.specs.Plane.{components, row_bytes, good_shape, grid_shape}
 use Rattle.plane.proofs.Bounds.{good_within}
 use Rattle.reel.specs.declared.Pictured.{Pictured}
-use Rattle.reel.specs.Reel.{shape_in, shape_tests, pictured_in, no_pictured, picture_bytes, picture_count_tests}
+use Rattle.reel.specs.Reel.{shape_in, shape_tests, pictured_in, picture_bytes, picture_count_tests}
 
-abbrev pub Fine : Pictured → Type 0
-Fine p = p.given ≡ true → 1 ≤ picture_bytes p
+abbrev pub Fine : Option Pictured → Type 0
+Fine p = is_some p ≡ true → 1 ≤ picture_bytes p
 
-pub none_fine : Fine no_pictured
+pub none_fine : Fine None
 none_fine given = absurd (true≢false (sym given))
 
 -- ---- a shape within the bounds
@@ -42,7 +44,7 @@ good_fine s e =
     let all : 1 * 1 ≤ s.height * s.stride = mul-le-mul w.height_least (le_trans row w.row_fits) in
     all
 
-pub given_fine : (u : List ℕ) → lowest (shape_tests u) ≡ 0 → Fine (pictured_in u)
+pub given_fine : (u : List ℕ) → lowest (shape_tests u) ≡ 0 → Fine (Some (pictured_in u))
 unfolding rising
 given_fine u e given = good_fine (grid_shape (shape_in u)) (all_pass (shape_tests u) tt e).1.0
 
@@ -51,7 +53,7 @@ pub given_if : (b given : Bool) → b ≡ false → (b || given) ≡ true → gi
 given_if true given e h = absurd (true≢false e)
 given_if false given e h = h
 
-pub some_picture : (p : Pictured) (n : ℕ) → Fine p → lowest (picture_count_tests p n) ≡ 0 → 0 < n → 1 ≤ picture_bytes p
+pub some_picture : (p : Option Pictured) (n : ℕ) → Fine p → lowest (picture_count_tests p n) ≡ 0 → 0 < n → 1 ≤ picture_bytes p
 unfolding rising
 some_picture p n fine e some =
-    fine (given_if (eqb n 0) p.given (ne_eqb n 0 (λ z. omega arith)) (all_pass (picture_count_tests p n) tt e).0)
+    fine (given_if (eqb n 0) (is_some p) (ne_eqb n 0 (λ z. omega arith)) (all_pass (picture_count_tests p n) tt e).0)

@@ -6,6 +6,8 @@ use native.Mathlib.Omega.{arith}
 use mathlib.Core.Path.{◌≡◌, refl, sym, ◌∙◌}
 use mathlib.Core.Bool.{Bool, true, false, cond, ◌||◌, true≢false}
 use mathlib.Core.List.{List, [], ◌∷◌}
+use Rattle.std.specs.Prelude.{Option, Some, None}
+use Rattle.std.specs.Option.{is_some}
 use lib.Dec.{eqb, leb}
 use lib.ListN.{length, take, drop, get_or, length-take, length-replicate}
 use lib.Seq.{get_or-take, get_or-drop}
@@ -26,7 +28,7 @@ use Rattle.entry.specs.Entry.{word_at, entry_of, good_entry, measured_in, push_i
 use Rattle.reel.specs.declared.Pictured.{Pictured}
 use Rattle.reel.specs.declared.Tally.{Tally}
 use Rattle.reel.specs.declared.Said.{Said}
-use Rattle.reel.specs.Reel.{shape_in, pictured_in, no_pictured, shape_count_tests, shape_tests, entry_tests, picture_bytes, picture_count_tests, no_frames, tallied}
+use Rattle.reel.specs.Reel.{shape_in, pictured_in, shown, shape_count_tests, shape_tests, entry_tests, picture_bytes, picture_count_tests, no_frames, tallied}
 use Rattle.reel.specs.Reel.{whole, judged, frame, pictures, picture_section, entries, fresh_state, entry_section, shape_section, said_of}
 use Rattle.reel.specs.Claims.{Bytes, all_known, FaultsKnown}
 use Rattle.reel.proofs.Turns.{one_less}
@@ -89,7 +91,7 @@ fewer_left : {state : State} {m : ℕ} (n : ℕ) → Small state m → n ≤ m �
 fewer_left n s h = record { few = omega (arith, s.few); long = s.long; kept = s.kept }
 
 -- an entry is taken
-module _ (state : State) (first : Parity) (m : Measured) (n : ℕ) (s : Small state (suc n)) where
+module _ (state : State) (first : Parity) (m : Option Measured) (n : ℕ) (s : Small state (suc n)) where
   entry_taken : number_in state (measured first m) ≡ 0
   unfolding lowest
   entry_taken = rw (lt-ltb state.detector.lock.course.taken 4000000000 (omega (arith, s.few)))
@@ -102,8 +104,8 @@ module _ (state : State) (first : Parity) (m : Measured) (n : ℕ) (s : Small st
   }
 
 -- ---- a picture is taken: it is within the bounds and fits the store
-record Fits (p : Pictured) : Type 0 where
-  good : good_shape (grid_shape p.shape) ≡ true
+record Fits (p : Option Pictured) : Type 0 where
+  good : good_shape (grid_shape (shown p).shape) ≡ true
   small : picture_bytes p ≤ 16384
 
 rows_fit : (h stride row : ℕ) → 1 ≤ h → row ≤ stride → (h - 1) * stride + row ≤ h * stride
@@ -116,21 +118,21 @@ wide_fits s =
     let row : s.width * 1 * 1 ≤ row_bytes s = mul-le-mul lane (some_bytes (leb s.depth 8)) in
     omega arith
 
-module _ (state : State) (p : Pictured) (u : List ℕ) (n : ℕ) (fits : Fits p) (read : picture_bytes p ≤ length u) (s : Small state (suc n)) where
-  plane_fits : plane_bytes (grid_shape p.shape) ≤ length u
+module _ (state : State) (p : Option Pictured) (u : List ℕ) (n : ℕ) (fits : Fits p) (read : picture_bytes p ≤ length u) (s : Small state (suc n)) where
+  plane_fits : plane_bytes (grid_shape (shown p).shape) ≤ length u
   plane_fits =
-      let w = good_within (grid_shape p.shape) fits.good in
-      le_trans (rows_fit p.shape.height p.shape.stride (row_bytes (grid_shape p.shape)) w.height_least w.row_fits) read
+      let w = good_within (grid_shape (shown p).shape) fits.good in
+      le_trans (rows_fit (shown p).shape.height (shown p).shape.stride (row_bytes (grid_shape (shown p).shape)) w.height_least w.row_fits) read
 
-  frame_fits : p.shape.height * p.shape.width ≤ 16384
+  frame_fits : (shown p).shape.height * (shown p).shape.width ≤ 16384
   frame_fits =
-      let w = good_within (grid_shape p.shape) fits.good in
-      let all : p.shape.height * p.shape.width ≤ p.shape.height * p.shape.stride =
-      mul-le-mul (le_refl p.shape.height) (le_trans (wide_fits (grid_shape p.shape)) w.row_fits) in
+      let w = good_within (grid_shape (shown p).shape) fits.good in
+      let all : (shown p).shape.height * (shown p).shape.width ≤ (shown p).shape.height * (shown p).shape.stride =
+      mul-le-mul (le_refl (shown p).shape.height) (le_trans (wide_fits (grid_shape (shown p).shape)) w.row_fits) in
       le_trans all fits.small
 
   abbrev pushed : Push
-  pushed = picture u (grid_shape p.shape) p.first
+  pushed = picture u (grid_shape (shown p).shape) (shown p).first
 
   picture_taken : number_in state pushed ≡ 0
   unfolding lowest
@@ -138,16 +140,16 @@ module _ (state : State) (p : Pictured) (u : List ℕ) (n : ℕ) (fits : Fits p)
       rw (
         s.long,
         fits.good,
-        le-leb (plane_bytes (grid_shape p.shape)) (length u) plane_fits,
+        le-leb (plane_bytes (grid_shape (shown p).shape)) (length u) plane_fits,
         le-leb (kept_bytes state.detector.kept) 16384 s.kept,
-        le-leb (p.shape.height * p.shape.width) 16384 frame_fits,
+        le-leb ((shown p).shape.height * (shown p).shape.width) 16384 frame_fits,
         lt-ltb state.detector.lock.course.taken 4000000000 (omega (arith, s.few)),
       )
 
   store_long : length (next state (push pushed)).store ≡ 16384
   store_long =
       rw picture_taken
-      (length_over (kept_frame u (grid_shape p.shape)) state.store (rw (kept_long u (grid_shape p.shape), s.long) frame_fits) ∙ s.long)
+      (length_over (kept_frame u (grid_shape (shown p).shape)) state.store (rw (kept_long u (grid_shape (shown p).shape), s.long) frame_fits) ∙ s.long)
 
   small_after_picture : Small (next state (push pushed)) n
   small_after_picture = record {
@@ -160,7 +162,7 @@ module _ (state : State) (p : Pictured) (u : List ℕ) (n : ℕ) (fits : Fits p)
 whole_unit : (k : ℕ) (bytes : List ℕ) → k ≤ length bytes → k ≤ length (take k bytes)
 whole_unit k bytes h = simp length-take (omega arith)
 
-pictures_known : (n : ℕ) (p : Pictured) (state : State) (t : Tally) (bytes : List ℕ) → (0 < n → Fits p) → Small state n
+pictures_known : (n : ℕ) (p : Option Pictured) (state : State) (t : Tally) (bytes : List ℕ) → (0 < n → Fits p) → Small state n
     → Known (pictures n p state t bytes)
 unfolding pictures
 pictures_known zero p state t bytes fits s = pick (eqb (length bytes) 0) (λ _. record { all = refl }) (record { all = refl })
@@ -168,35 +170,35 @@ pictures_known (suc n) p state t bytes fits s =
     let k = picture_bytes p in
     let u = take k bytes in
     let f = fits (omega arith) in
-    whole_known k (λ u rest. frame state t (picture u (grid_shape p.shape) p.first) (λ after v. pictures n p after v rest)) bytes
+    whole_known k (λ u rest. frame state t (picture u (grid_shape (shown p).shape) (shown p).first) (λ after v. pictures n p after v rest)) bytes
     (λ long.
     let read = whole_unit k bytes long in
-    frame_known state t (picture u (grid_shape p.shape) p.first) (λ after v. pictures n p after v (drop k bytes)) (picture_taken state p u n f read s)
+    frame_known state t (picture u (grid_shape (shown p).shape) (shown p).first) (λ after v. pictures n p after v (drop k bytes)) (picture_taken state p u n f read s)
     (pictures_known n p _ _ (drop k bytes) (λ _. f) (small_after_picture state p u n f read s)))
 
 -- a shape that is given is within the bounds
-abbrev Good : Pictured → Type 0
-Good p = p.given ≡ true → good_shape (grid_shape p.shape) ≡ true
+abbrev Good : Option Pictured → Type 0
+Good p = is_some p ≡ true → good_shape (grid_shape (shown p).shape) ≡ true
 
-none_good : Good no_pictured
+none_good : Good None
 none_good given = absurd (true≢false (sym given))
 
-count_fits : (p : Pictured) (n : ℕ) → Good p → (eqb n 0 || p.given) ≡ true → (eqb n 0 || leb (picture_bytes p) 16384) ≡ true → 0 < n → Fits p
+count_fits : (p : Option Pictured) (n : ℕ) → Good p → (eqb n 0 || is_some p) ≡ true → (eqb n 0 || leb (picture_bytes p) 16384) ≡ true → 0 < n → Fits p
 count_fits p n good a b some =
     let counted = ne_eqb n 0 (λ z. omega arith) in
-    record { good = good (given_if (eqb n 0) p.given counted a); small = leb-true _ _ (given_if (eqb n 0) (leb (picture_bytes p) 16384) counted b) }
+    record { good = good (given_if (eqb n 0) (is_some p) counted a); small = leb-true _ _ (given_if (eqb n 0) (leb (picture_bytes p) 16384) counted b) }
 
-picture_section_known : (p : Pictured) (state : State) (t : Tally) (bytes : List ℕ) → Bytes bytes → Good p → Small state 65535
+picture_section_known : (p : Option Pictured) (state : State) (t : Tally) (bytes : List ℕ) → Bytes bytes → Good p → Small state 65535
     → Known (picture_section p state t bytes)
 unfolding picture_section
 picture_section_known p state t bytes all good s =
     let n = word_at (take 2 bytes) 0 in
     whole_known 2 (λ u rest. judged (picture_count_tests p (word_at u 0)) (pictures (word_at u 0) p state t rest)) bytes
     (λ _.
-    judged_37 (eqb n 0 || p.given) (eqb n 0 || leb (picture_bytes p) 16384)
+    judged_37 (eqb n 0 || is_some p) (eqb n 0 || leb (picture_bytes p) 16384)
     (λ a b. pictures_known n p state t (drop 2 bytes) (count_fits p n good a b) (fewer_left n s (small_word bytes all))))
 
-entries_known : (n : ℕ) (p : Pictured) (state : State) (t : Tally) (bytes : List ℕ) → Bytes bytes → Good p → Small state (n + 65535)
+entries_known : (n : ℕ) (p : Option Pictured) (state : State) (t : Tally) (bytes : List ℕ) → Bytes bytes → Good p → Small state (n + 65535)
     → Known (entries n p state t bytes)
 unfolding entries
 entries_known zero p state t bytes all good s = picture_section_known p state t bytes all good (fewer_left 65535 s (omega arith))
@@ -213,7 +215,7 @@ entries_known (suc n) p state t bytes all good s =
     (entries_known n p (next state (push entry)) (tallied (cadence_in state entry) t) (drop 12 bytes) (rest_bytes bytes 12 all) good
     (small_after_entry state first (measured_in (entry_of u)) (n + 65535) r))))
 
-entry_section_known : (p : Pictured) (bytes : List ℕ) → Bytes bytes → Good p → Known (entry_section p bytes)
+entry_section_known : (p : Option Pictured) (bytes : List ℕ) → Bytes bytes → Good p → Known (entry_section p bytes)
 unfolding entry_section
 entry_section_known p bytes all good =
     let n = word_at (take 2 bytes) 0 in
@@ -226,11 +228,11 @@ shape_section_known : (n : ℕ) (bytes : List ℕ) → Bytes bytes → Known (sh
 unfolding shape_section
 shape_section_known n bytes all =
     let u = take 10 bytes in
-    pick (eqb n 0) (λ _. entry_section_known no_pictured bytes all none_good)
-    (whole_known 10 (λ u rest. judged (shape_tests u) (entry_section (pictured_in u) rest)) bytes
+    pick (eqb n 0) (λ _. entry_section_known None bytes all none_good)
+    (whole_known 10 (λ u rest. judged (shape_tests u) (entry_section (Some (pictured_in u)) rest)) bytes
     (λ _.
     judged_34 (leb (word_at u 8) 1) (good_shape (grid_shape (shape_in u)))
-    (λ good. entry_section_known (pictured_in u) (drop 10 bytes) (rest_bytes bytes 10 all) (λ _. good))))
+    (λ good. entry_section_known (Some (pictured_in u)) (drop 10 bytes) (rest_bytes bytes 10 all) (λ _. good))))
 
 pub faults_known : FaultsKnown
 unfolding said_of

@@ -6,11 +6,14 @@ use native.Mathlib.Omega.{arith}
 use mathlib.Core.Path.{◌≡◌, refl, ap, sym, subst, ◌∙◌}
 use mathlib.Core.Bool.{Bool, true, false, cond}
 use mathlib.Core.List.{List, [], ◌∷◌}
+use Rattle.std.specs.Prelude.{Option, Some, None}
 use lib.Dec.{eqb, leb}
 use lib.ListN.{length, take, drop, get_or, replicate}
 use lib.Seq.{get_or-take, drop-drop}
 use borrow.Author.Tests.{eqb-true, lt-ltb, le-ltb}
 use Rattle.laws.specs.Refusal.{lowest}
+use Rattle.refusal.specs.declared.Refusal.{Refusal}
+use Rattle.refusal.specs.declared.Refusal.TheVariants as refusal
 use Rattle.plane.specs.Plane.{grid_shape}
 use Rattle.pulldown.specs.Lock.{locked_of}
 use Rattle.telecine.specs.History.{State, Push, picture, push, number_in, cadence_in, next, after, frames_of, taken}
@@ -22,7 +25,7 @@ use Rattle.reel.specs.declared.Pictured.{Pictured}
 use Rattle.reel.specs.declared.Tally.{Tally}
 use Rattle.reel.specs.declared.Said.{Said}
 use Rattle.reel.specs.declared.Said.TheVariants.{Quiet, Frame, Totals, Fault}
-use Rattle.reel.specs.Reel.{shape_in, pictured_in, no_pictured, shape_count_tests, shape_tests, entry_tests, picture_bytes, picture_count_tests, no_frames}
+use Rattle.reel.specs.Reel.{shape_in, pictured_in, shown, shape_count_tests, shape_tests, entry_tests, picture_bytes, picture_count_tests, no_frames, refused}
 use Rattle.reel.specs.Reel.{whole, judged, frame, pictures, picture_section, entries, fresh_state, entry_section, shape_section, said_of}
 use Rattle.reel.specs.Frames.{entry_count, entries_in, pictures_in, frame_in, frame_at, frames_before}
 use Rattle.reel.specs.Claims.{Demanded, LinesDemanded}
@@ -33,7 +36,7 @@ module _ (frames : ℕ → Push) where
   Line k Quiet = Unit {0}
   Line k (Frame n c locked) = Demanded frames k n c locked
   Line k (Totals t) = Unit {0}
-  Line k (Fault n) = Unit {0}
+  Line k (Fault why) = Unit {0}
 
   abbrev Lines : ℕ → List Said → Type 0
   Lines k [] = Unit {0}
@@ -51,16 +54,16 @@ module _ (frames : ℕ → Push) where
   pick k true p q = p refl
   pick k false p q = q
 
-  fault : (k n : ℕ) → From k (Fault n ∷ [])
-  fault k n = record { lines = (tt, tt) }
+  fault : (k : ℕ) (why : Refusal) → From k (Fault why ∷ [])
+  fault k why = record { lines = (tt, tt) }
 
   whole_from : (k n : ℕ) (more : List ℕ → List ℕ → List Said) (bytes : List ℕ) → From k (more (take n bytes) (drop n bytes))
       → From k (whole n more bytes)
   unfolding whole
-  whole_from k n more bytes h = pick k (leb n (length bytes)) (λ _. h) (fault k 6)
+  whole_from k n more bytes h = pick k (leb n (length bytes)) (λ _. h) (fault k refusal.ShortInput)
 
   judged_from : (k : ℕ) (tests : List (ℕ × Bool)) {more : List Said} → From k more → From k (judged tests more)
-  judged_from k tests h = pick k (eqb (lowest tests) 0) (λ _. h) (fault k (lowest tests))
+  judged_from k tests h = pick k (eqb (lowest tests) 0) (λ _. h) (fault k (refused (lowest tests)))
 
   -- ---- the state that frame k is pushed to
   frames_before_lem : (k : ℕ) → frames_of (frames_before frames k) ≡ k
@@ -112,7 +115,7 @@ module _ (frames : ℕ → Push) where
           (λ e.
           let done = eqb-true _ _ e in
           record { lines = (demanded k all done, (rest _ (record { is = refl; all = none-refused k all done })).lines) })
-          (fault k (number_in (reached k) (frames k)))
+          (fault k (refused (number_in (reached k) (frames k))))
 
       frame-from : (state : State) (u : Push) → u ≡ frames k → Come state k
           → ((v : Tally) → Come (next state (push u)) (suc k) → From (suc k) (more (next state (push u)) v))
@@ -137,7 +140,7 @@ shape_there bytes =
       word_there 10 bytes 8 (omega arith),
     )
 
-module _ (p : Pictured) (behind : List ℕ) where
+module _ (p : Option Pictured) (behind : List ℕ) where
   abbrev frames : ℕ → Push
   frames = frame_in p behind
 
@@ -149,7 +152,7 @@ module _ (p : Pictured) (behind : List ℕ) where
 
   -- ---- pictures: j came, and n are left
   picture_there : (k j : ℕ) (bytes : List ℕ) → k ≡ count + j → bytes ≡ drop (picture_bytes p * j) (pictures_in behind)
-      → picture (take (picture_bytes p) bytes) (grid_shape p.shape) p.first ≡ frames k
+      → picture (take (picture_bytes p) bytes) (grid_shape (shown p).shape) (shown p).first ≡ frames k
   unfolding frame_in
   picture_there k j bytes k-is bytes-is =
       let past : k - count ≡ j = omega arith in
@@ -162,11 +165,11 @@ module _ (p : Pictured) (behind : List ℕ) where
   pictures_from : (n k j : ℕ) (state : State) (t : Tally) (bytes : List ℕ) → k ≡ count + j → bytes ≡ drop (picture_bytes p * j) (pictures_in behind)
       → Come frames store state k → From frames k (pictures n p state t bytes)
   unfolding pictures
-  pictures_from zero k j state t bytes k-is bytes-is come = pick frames k (eqb (length bytes) 0) (λ _. record { lines = (tt, tt) }) (fault frames k 3)
+  pictures_from zero k j state t bytes k-is bytes-is come = pick frames k (eqb (length bytes) 0) (λ _. record { lines = (tt, tt) }) (fault frames k refusal.Outside)
   pictures_from (suc n) k j state t bytes k-is bytes-is come =
       let size = picture_bytes p in
-      whole_from frames k size (λ u rest. frame state t (picture u (grid_shape p.shape) p.first) (λ after v. pictures n p after v rest)) bytes
-      (frame-from frames store k t (λ after v. pictures n p after v (drop size bytes)) state (picture (take size bytes) (grid_shape p.shape) p.first)
+      whole_from frames k size (λ u rest. frame state t (picture u (grid_shape (shown p).shape) (shown p).first) (λ after v. pictures n p after v rest)) bytes
+      (frame-from frames store k t (λ after v. pictures n p after v (drop size bytes)) state (picture (take size bytes) (grid_shape (shown p).shape) (shown p).first)
       (picture_there k j bytes k-is bytes-is) come
       (λ v further. pictures_from n (suc k) (suc j) _ v (drop size bytes) (omega arith) (picture_behind j bytes bytes-is) further))
 
@@ -208,15 +211,15 @@ module _ (p : Pictured) (behind : List ℕ) where
 
 -- ---- the file
 shape_from : (none : Bool) (bytes : List ℕ)
-    → From (frame_in (cond none no_pictured (pictured_in (drop 2 bytes))) (cond none (drop 2 bytes) (drop 12 bytes))) 0
-    (cond none (entry_section no_pictured (drop 2 bytes)) (whole 10 (λ u rest. judged (shape_tests u) (entry_section (pictured_in u) rest)) (drop 2 bytes)))
-shape_from true bytes = entry_section_from no_pictured (drop 2 bytes)
+    → From (frame_in (cond none None (Some (pictured_in (drop 2 bytes)))) (cond none (drop 2 bytes) (drop 12 bytes))) 0
+    (cond none (entry_section None (drop 2 bytes)) (whole 10 (λ u rest. judged (shape_tests u) (entry_section (Some (pictured_in u)) rest)) (drop 2 bytes)))
+shape_from true bytes = entry_section_from None (drop 2 bytes)
 shape_from false bytes =
     let u = take 10 (drop 2 bytes) in
-    let frames = frame_in (pictured_in (drop 2 bytes)) (drop 12 bytes) in
-    whole_from frames 0 10 (λ u rest. judged (shape_tests u) (entry_section (pictured_in u) rest)) (drop 2 bytes)
+    let frames = frame_in (Some (pictured_in (drop 2 bytes))) (drop 12 bytes) in
+    whole_from frames 0 10 (λ u rest. judged (shape_tests u) (entry_section (Some (pictured_in u)) rest)) (drop 2 bytes)
     (judged_from frames 0 (shape_tests u)
-    (rw (shape_there (drop 2 bytes), drop-drop 10 2 bytes) (entry_section_from (pictured_in (drop 2 bytes)) (drop 12 bytes))))
+    (rw (shape_there (drop 2 bytes), drop-drop 10 2 bytes) (entry_section_from (Some (pictured_in (drop 2 bytes))) (drop 12 bytes))))
 
 file_from : (bytes : List ℕ) → From (frame_at bytes) 0 (said_of bytes)
 unfolding said_of shape_section

@@ -1,8 +1,9 @@
 -- The same, a unit at a time: what the machine's functions give, on every state that its struct can hold, and the machine fed a whole file.
-use Rattle.std.specs.Prelude.{ℕ, zero, suc, ◌+◌, ◌-◌, ◌≤◌, min, ◌≡◌, Bool, cond, List, [], ◌∷◌, eqb, leb, length, take, drop}
+use Rattle.std.specs.Prelude.{ℕ, zero, suc, ◌+◌, ◌-◌, ◌≤◌, min, ◌≡◌, Bool, cond, List, [], ◌∷◌, Option, Some, None, eqb, leb, length, take, drop}
 use Rattle.laws.specs.Refusal.{lowest}
+use Rattle.refusal.specs.declared.Refusal.TheVariants as refusal
 use Rattle.field.specs.declared.Cadence.{Cadence}
-use Rattle.field.specs.declared.Cadence.TheVariants.{None, Whole, Drop, Spanning}
+use Rattle.field.specs.declared.Cadence.TheVariants as cadence
 use Rattle.plane.specs.Plane.{grid_shape}
 use Rattle.pulldown.specs.Lock.{locked_of}
 use Rattle.telecine.specs.declared.Detector.{Detector}
@@ -17,16 +18,16 @@ use Rattle.reel.specs.declared.Stage.{Stage}
 use Rattle.reel.specs.declared.Stage.TheVariants.{ShapeCount, ShapeNumbers, EntryCount, Entries, Pictures, Done}
 use Rattle.reel.specs.declared.Reel.{Reel}
 use Rattle.reel.specs.declared.Next.{Next}
-use Rattle.reel.specs.Reel.{shape_count_tests, shape_tests, pictured_in, no_pictured, entry_tests, picture_bytes, picture_count_tests, no_frames}
+use Rattle.reel.specs.Reel.{shape_count_tests, shape_tests, pictured_in, shown, entry_tests, picture_bytes, picture_count_tests, no_frames, refused}
 
-abbrev pub reel_of : Stage → Pictured → Detector → Tally → Reel
+abbrev pub reel_of : Stage → Option Pictured → Detector → Tally → Reel
 reel_of stage p d t = record { stage = stage; pictured = p; detector = d; tally = t }
 
 abbrev pub start_of : Reel
-start_of = reel_of ShapeCount no_pictured fresh_detector no_frames
+start_of = reel_of ShapeCount None fresh_detector no_frames
 
 -- how many bytes the next unit has; 1 at the end, where none should come, and 0 once the file has been judged
-abbrev pub want_at : Stage → Pictured → ℕ
+abbrev pub want_at : Stage → Option Pictured → ℕ
 want_at ShapeCount p = 2
 want_at ShapeNumbers p = 10
 want_at EntryCount p = 2
@@ -46,20 +47,20 @@ close r said = record { reel = reel_of Done r.pictured r.detector r.tally; said 
 
 -- a unit of k bytes, or the file is cut short; then it is judged
 abbrev pub whole_of : Reel → ℕ → List ℕ → Next → Next
-whole_of r k u more = cond (leb k (length u)) more (close r (Fault 6))
+whole_of r k u more = cond (leb k (length u)) more (close r (Fault refusal.ShortInput))
 
 abbrev pub judged_of : Reel → List (ℕ × Bool) → Next → Next
-judged_of r tests more = cond (eqb (lowest tests) 0) more (close r (Fault (lowest tests)))
+judged_of r tests more = cond (eqb (lowest tests) 0) more (close r (Fault (refused (lowest tests))))
 
 -- A count with one more in it. It stops at the largest number that the struct holds, which no reel comes near.
 abbrev pub one_more : ℕ → ℕ
 one_more n = min 18446744073709551615 (n + 1)
 
 abbrev pub tallied_in : Cadence → Tally → Tally
-tallied_in Whole t = record { whole = one_more t.whole; drop = t.drop; spanning = t.spanning; none = t.none }
-tallied_in Drop t = record { whole = t.whole; drop = one_more t.drop; spanning = t.spanning; none = t.none }
-tallied_in Spanning t = record { whole = t.whole; drop = t.drop; spanning = one_more t.spanning; none = t.none }
-tallied_in None t = record { whole = t.whole; drop = t.drop; spanning = t.spanning; none = one_more t.none }
+tallied_in cadence.Whole t = record { whole = one_more t.whole; drop = t.drop; spanning = t.spanning; none = t.none }
+tallied_in cadence.Drop t = record { whole = t.whole; drop = one_more t.drop; spanning = t.spanning; none = t.none }
+tallied_in cadence.Spanning t = record { whole = t.whole; drop = t.drop; spanning = one_more t.spanning; none = t.none }
+tallied_in cadence.None t = record { whole = t.whole; drop = t.drop; spanning = t.spanning; none = one_more t.none }
 
 -- the machine's detector with the lent store
 abbrev pub state_of : Reel → List ℕ → State
@@ -73,13 +74,13 @@ pushed_of r stage store u =
       reel = reel_of stage r.pictured (next (state_of r store) (push u)).detector (tallied_in (cadence_in (state_of r store) u) r.tally);
       said = Frame r.detector.lock.course.taken (cadence_in (state_of r store) u) (locked_of (next (state_of r store) (push u)).detector.lock);
     })
-    (close r (Fault (number_in (state_of r store) u)))
+    (close r (Fault (refused (number_in (state_of r store) u))))
 
 unfoldable pub shape_count_of : Reel → List ℕ → Next
 shape_count_of r u = whole_of r 2 u (judged_of r (shape_count_tests (word_at u 0)) (on_to r (cond (eqb (word_at u 0) 0) EntryCount ShapeNumbers)))
 
 unfoldable pub shape_numbers_of : Reel → List ℕ → Next
-shape_numbers_of r u = whole_of r 10 u (judged_of r (shape_tests u) (record { reel = reel_of EntryCount (pictured_in u) r.detector r.tally; said = Quiet }))
+shape_numbers_of r u = whole_of r 10 u (judged_of r (shape_tests u) (record { reel = reel_of EntryCount (Some (pictured_in u)) r.detector r.tally; said = Quiet }))
 
 unfoldable pub entry_count_of : Reel → List ℕ → Next
 entry_count_of r u = whole_of r 2 u (on_to r (Entries (word_at u 0)))
@@ -91,7 +92,7 @@ unfoldable pub picture_count_of : Reel → List ℕ → Next
 picture_count_of r u = whole_of r 2 u (judged_of r (picture_count_tests r.pictured (word_at u 0)) (on_to r (Pictures (word_at u 0))))
 
 abbrev pub picture_in : Reel → List ℕ → Push
-picture_in r u = picture u (grid_shape r.pictured.shape) r.pictured.first
+picture_in r u = picture u (grid_shape (shown r.pictured).shape) (shown r.pictured).first
 
 unfoldable pub picture_unit_of : Reel → ℕ → List ℕ → List ℕ → Next
 picture_unit_of r n store u = whole_of r (picture_bytes r.pictured) u (pushed_of r (Pictures (n - 1)) store (picture_in r u))
@@ -100,7 +101,7 @@ unfoldable pub picture_store : Reel → List ℕ → List ℕ → List ℕ
 picture_store r store u = cond (leb (picture_bytes r.pictured) (length u)) (next (state_of r store) (push (picture_in r u))).store store
 
 unfoldable pub end_of : Reel → List ℕ → Next
-end_of r u = cond (eqb (length u) 0) (close r (Totals r.tally)) (close r (Fault 3))
+end_of r u = cond (eqb (length u) 0) (close r (Totals r.tally)) (close r (Fault refusal.Outside))
 
 abbrev pub next_at : Stage → Reel → List ℕ → List ℕ → Next
 next_at ShapeCount r store u = shape_count_of r u

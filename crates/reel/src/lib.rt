@@ -4,31 +4,30 @@
 
 ghost use Rattle.std.specs.Prelude.{◌≡◌, [], ◌∷◌, ◌<◌, leb};
 ghost use Rattle.laws.specs.Refusal.{lowest};
+ghost use Rattle.refusal.specs.Refusal.{no_of};
 ghost use Rattle.plane.specs.Plane.{good_shape, grid_shape};
 ghost use Rattle.numbers.specs.Inner.{cut_grid};
-ghost use Rattle.reel.specs.Reel.{shape_in, no_pictured, picture_bytes, picture_count_tests, no_frames};
-ghost use Rattle.reel.specs.Machine.{start_of, want_of, on_to, close, one_more, tallied_in, shape_count_of, shape_numbers_of, entry_count_of, entry_unit_of, picture_count_of, picture_unit_of, picture_store, end_of, next_of, store_after};
-ghost use Rattle.reel.specs.Inner.{cut_pictured, pushed_as};
+ghost use Rattle.reel.specs.Reel.{shape_in, picture_bytes, picture_count_tests};
+ghost use Rattle.reel.specs.Machine.{start_of, want_of, on_to, close, tallied_in, shape_count_of, shape_numbers_of, entry_count_of, entry_unit_of, picture_count_of, picture_unit_of, picture_store, end_of, next_of, store_after};
+ghost use Rattle.reel.specs.Inner.{cut_pictured, closed, pushed_as};
 
 use entry::word_at;
 use field::{Cadence, Parity};
 use numbers::GridNumbers;
-use plane::Grid;
-use pulldown::Answer;
-use refusal::{OUTSIDE, SHORT_INPUT};
+use plane::{Grid, Shape};
+use refusal::Refusal;
 use telecine::{Detector, Pushed};
 
-// What the file's pictures look like. Where no shape is given, the rest says nothing.
-#[derive(Clone, Copy)]
+// What the file's pictures look like.
+#[derive(Clone, Copy, Debug, PartialEq, Eq)]
 pub struct Pictured {
-    pub given: bool,
     pub shape: Grid,
     // The field that leads.
     pub first: Parity,
 }
 
 // How many frames had each cadence.
-#[derive(Clone, Copy)]
+#[derive(Clone, Copy, Debug, PartialEq, Eq)]
 pub struct Tally {
     pub whole: u64,
     pub drop: u64,
@@ -37,7 +36,7 @@ pub struct Tally {
 }
 
 // What is read next: after the last entry the count of pictures, after the last picture the end.
-#[derive(Clone, Copy)]
+#[derive(Clone, Copy, Debug, PartialEq, Eq)]
 pub enum Stage {
     ShapeCount,
     ShapeNumbers,
@@ -47,175 +46,134 @@ pub enum Stage {
     Done,
 }
 
-#[derive(Clone, Copy)]
+#[derive(Clone, Copy, Debug, PartialEq, Eq)]
 pub struct Reel {
     pub stage: Stage,
-    pub pictured: Pictured,
+    // Nothing where no shape is given, and as long as none was read.
+    pub pictured: Option<Pictured>,
     pub detector: Detector,
     pub tally: Tally,
 }
 
 // What a unit leads to: nothing; a frame, with its number, its cadence, and whether there is a lock;
 // the totals; or a fault.
-#[derive(Clone, Copy)]
+#[derive(Clone, Copy, Debug, PartialEq, Eq)]
 pub enum Said {
     Quiet,
     Frame(u64, Cadence, bool),
     Totals(Tally),
-    Fault(u8),
+    Fault(Refusal),
 }
 
-#[derive(Clone, Copy)]
+#[derive(Clone, Copy, Debug, PartialEq, Eq)]
 pub struct Next {
     pub reel: Reel,
     pub said: Said,
 }
 
+#[tactic(auto, unfolding(crate::specs::Reel::shape_in))]
 fn shape_in(unit: &[u8]) -> Grid
     ensures { result ≡ cut_grid (shape_in unit.now) }
 {
-    let given = GridNumbers {
-        width: word_at(unit, 0) as u32,
-        height: word_at(unit, 2) as u32,
-        depth: word_at(unit, 4) as u32,
-        stride: word_at(unit, 6) as u32,
-    };
-    numbers::grid_named(given)
+    numbers::grid_named(GridNumbers {
+        width: u32::from(word_at(unit, 0)),
+        height: u32::from(word_at(unit, 2)),
+        depth: u32::from(word_at(unit, 4)),
+        stride: u32::from(word_at(unit, 6)),
+    })
 }
 
 fn pictured_in(unit: &[u8]) -> Pictured
     ensures { result ≡ cut_pictured unit.now }
 {
-    let shape = shape_in(unit);
-    let first = Parity::named(word_at(unit, 8) as u64);
     Pictured {
-        given: true,
-        shape: shape,
-        first: first,
+        shape: shape_in(unit),
+        first: Parity::named(u64::from(word_at(unit, 8))),
     }
 }
 
-fn no_pictured() -> Pictured
-    ensures { result ≡ no_pictured }
-{
-    Pictured {
-        given: false,
-        shape: Grid {
-            width: 0,
-            height: 0,
-            depth: 0,
-            stride: 0,
-        },
-        first: Parity::Top,
-    }
-}
-
-fn no_frames() -> Tally
-    ensures { result ≡ no_frames }
-{
-    Tally {
-        whole: 0,
-        drop: 0,
-        spanning: 0,
-        none: 0,
-    }
-}
-
-fn picture_bytes(pictured: Pictured) -> u64
+// None where no shape is given.
+fn picture_bytes(pictured: Option<Pictured>) -> u64
     ensures { result ≡ picture_bytes pictured }
 {
-    let shape = pictured.shape;
-    (shape.height as u64) * (shape.stride as u64)
+    match pictured {
+        Some(Pictured { shape, .. }) => u64::from(shape.height) * u64::from(shape.stride),
+        None => 0,
+    }
 }
 
-fn shape_no(shape: Grid, parity: u16) -> u8
-    ensures { result ≡ lowest ((3, leb parity 1) ∷ (4, good_shape (grid_shape shape)) ∷ []) }
+#[tactic(auto, unfolding(laws::specs::Refusal::lowest))]
+fn judge_shape(shape: Grid, parity: u16) -> Result<(), Refusal>
+    ensures { no_of result ≡ lowest ((3, leb parity 1) ∷ (4, good_shape (grid_shape shape)) ∷ []) }
 {
-    let good = plane::good_shape(plane::shape_of(shape));
-    refusal::test(
-        OUTSIDE,
-        parity <= 1,
-        refusal::test(refusal::SHAPE, good, refusal::DONE),
-    )
+    Refusal::Outside.unless(parity <= 1)?;
+    Refusal::Shape.unless(Shape::from(shape).is_good())
 }
 
-fn picture_count_no(pictured: Pictured, n: u16) -> u8
-    ensures { result ≡ lowest (picture_count_tests pictured n) }
+#[tactic(auto, unfolding(laws::specs::Refusal::lowest))]
+fn judge_picture_count(pictured: Option<Pictured>, n: u16) -> Result<(), Refusal>
+    ensures { no_of result ≡ lowest (picture_count_tests pictured n) }
 {
     let none = n == 0;
-    let small = picture_bytes(pictured) <= 16384;
-    let output = refusal::test(refusal::SHORT_OUTPUT, none | small, refusal::DONE);
-    refusal::test(OUTSIDE, none | pictured.given, output)
-}
-
-fn one_more(n: u64) -> u64
-    ensures { result ≡ one_more n }
-{
-    if n < u64::MAX { n + 1 } else { u64::MAX }
+    Refusal::Outside.unless(none || pictured.is_some())?;
+    Refusal::ShortOutput.unless(none || picture_bytes(pictured) <= 16384)
 }
 
 impl Tally {
-    fn add(self, cadence: Cadence) -> Tally
+    fn add(self, cadence: Cadence) -> Self
         ensures { result ≡ tallied_in cadence self }
     {
         match cadence {
-            Cadence::Whole => Tally {
-                whole: one_more(self.whole),
-                drop: self.drop,
-                spanning: self.spanning,
-                none: self.none,
+            Cadence::Whole => Self {
+                whole: self.whole.saturating_add(1),
+                ..self
             },
-            Cadence::Drop => Tally {
-                whole: self.whole,
-                drop: one_more(self.drop),
-                spanning: self.spanning,
-                none: self.none,
+            Cadence::Drop => Self {
+                drop: self.drop.saturating_add(1),
+                ..self
             },
-            Cadence::Spanning => Tally {
-                whole: self.whole,
-                drop: self.drop,
-                spanning: one_more(self.spanning),
-                none: self.none,
+            Cadence::Spanning => Self {
+                spanning: self.spanning.saturating_add(1),
+                ..self
             },
-            Cadence::None => Tally {
-                whole: self.whole,
-                drop: self.drop,
-                spanning: self.spanning,
-                none: one_more(self.none),
+            Cadence::None => Self {
+                none: self.none.saturating_add(1),
+                ..self
             },
         }
     }
 }
 
 impl Reel {
-    pub fn start() -> Reel
+    pub fn start() -> Self
         ensures { result ≡ start_of }
     {
-        Reel {
+        Self {
             stage: Stage::ShapeCount,
-            pictured: no_pictured(),
+            pictured: None,
             detector: Detector::new(),
-            tally: no_frames(),
+            tally: Tally {
+                whole: 0,
+                drop: 0,
+                spanning: 0,
+                none: 0,
+            },
         }
     }
 
     // How many bytes the next unit has; 0 once the file has been judged.
+    #[tactic(auto, unfolding(crate::specs::Machine::want_of))]
     pub fn want(self) -> u64
         ensures { result ≡ want_of self }
     {
-        let stage = self.stage;
-        match stage {
+        match self.stage {
             Stage::ShapeCount => 2,
             Stage::ShapeNumbers => 10,
             Stage::EntryCount => 2,
-            Stage::Entries(n) => { if n == 0 { 2 } else { 12 } }
-            Stage::Pictures(n) => {
-                if n == 0 {
-                    1
-                } else {
-                    picture_bytes(self.pictured)
-                }
-            }
+            Stage::Entries(0) => 2,
+            Stage::Entries(_) => 12,
+            Stage::Pictures(0) => 1,
+            Stage::Pictures(_) => picture_bytes(self.pictured),
             Stage::Done => 0,
         }
     }
@@ -223,16 +181,8 @@ impl Reel {
     fn on_to(self, stage: Stage) -> Next
         ensures { result ≡ on_to self stage }
     {
-        let pictured = self.pictured;
-        let detector = self.detector;
-        let tally = self.tally;
         Next {
-            reel: Reel {
-                stage: stage,
-                pictured: pictured,
-                detector: detector,
-                tally: tally,
-            },
+            reel: Self { stage, ..self },
             said: Said::Quiet,
         }
     }
@@ -240,159 +190,140 @@ impl Reel {
     fn close(self, said: Said) -> Next
         ensures { result ≡ close self said }
     {
-        let pictured = self.pictured;
-        let detector = self.detector;
-        let tally = self.tally;
         Next {
-            reel: Reel {
+            reel: Self {
                 stage: Stage::Done,
-                pictured: pictured,
-                detector: detector,
-                tally: tally,
+                ..self
             },
-            said: said,
+            said,
         }
     }
 
     // After a frame was pushed. A refusal would close the file too, but no file of bytes meets one
     // (proofs/Known.antt).
-    fn pushed(self, stage: Stage, pushed: Pushed) -> Next
-        ensures { result ≡ pushed_as self stage pushed }
+    #[tactic(auto, unfolding(crate::specs::Inner::pushed_as))]
+    fn pushed(self, stage: Stage, pushed: Pushed) -> Result<Next, Refusal>
+        ensures { closed self result ≡ pushed_as self stage pushed }
     {
-        let answer = pushed.answer;
-        match answer {
-            Answer::Gave(cadence) => {
-                let pictured = self.pictured;
-                let old = self.detector;
-                let lock = old.lock;
-                let course = lock.course;
-                let detector = pushed.detector;
-                let tally = self.tally;
-                Next {
-                    reel: Reel {
-                        stage: stage,
-                        pictured: pictured,
-                        detector: detector,
-                        tally: tally.add(cadence),
-                    },
-                    said: Said::Frame(course.taken, cadence, detector.locked()),
-                }
-            }
-            Answer::Refused(no) => self.close(Said::Fault(no)),
-        }
+        let cadence = pushed.answer?;
+        Ok(Next {
+            reel: Self {
+                stage,
+                detector: pushed.detector,
+                tally: self.tally.add(cadence),
+                ..self
+            },
+            said: Said::Frame(
+                self.detector.lock.course.taken,
+                cadence,
+                pushed.detector.locked(),
+            ),
+        })
     }
+
+    // ---- a unit of each stage; `next` closes the file where one is refused
 
     #[tactic(auto, unfolding(crate::specs::Machine::shape_count_of, laws::specs::Refusal::lowest))]
-    fn shape_count(self, unit: &[u8]) -> Next
-        ensures { result ≡ shape_count_of self unit.now }
+    fn shape_count(self, unit: &[u8]) -> Result<Next, Refusal>
+        ensures { closed self result ≡ shape_count_of self unit.now }
     {
-        if unit.len() < 2 {
-            return self.close(Said::Fault(SHORT_INPUT));
+        Refusal::ShortInput.unless(2 <= unit.len())?;
+        match word_at(unit, 0) {
+            0 => Ok(self.on_to(Stage::EntryCount)),
+            5 => Ok(self.on_to(Stage::ShapeNumbers)),
+            _ => Err(Refusal::Outside),
         }
-        let n = word_at(unit, 0);
-        if n == 0 {
-            return self.on_to(Stage::EntryCount);
-        }
-        if n == 5 {
-            return self.on_to(Stage::ShapeNumbers);
-        }
-        let wrong_count = Said::Fault(OUTSIDE);
-        self.close(wrong_count)
     }
 
-    fn shape_numbers(self, unit: &[u8]) -> Next
-        ensures { result ≡ shape_numbers_of self unit.now }
+    #[tactic(auto, using(crate::proofs::Pushes::closes, crate::proofs::Pushes::goes_on, crate::proofs::Cut::judged_cut, crate::proofs::Cut::uncut), unfolding(crate::specs::Machine::shape_numbers_of))]
+    fn shape_numbers(self, unit: &[u8]) -> Result<Next, Refusal>
+        ensures { closed self result ≡ shape_numbers_of self unit.now }
     {
-        if unit.len() < 10 {
-            return self.close(Said::Fault(SHORT_INPUT));
-        }
+        Refusal::ShortInput.unless(10 <= unit.len())?;
         let pictured = pictured_in(unit);
-        let shape = pictured.shape;
-        let no = shape_no(shape, word_at(unit, 8));
-        if no != 0 {
-            return self.close(Said::Fault(no));
-        }
-        let detector = self.detector;
-        let tally = self.tally;
-        Next {
-            reel: Reel {
-                stage: Stage::EntryCount,
-                pictured: pictured,
-                detector: detector,
-                tally: tally,
-            },
-            said: Said::Quiet,
-        }
+        judge_shape(pictured.shape, word_at(unit, 8))?;
+        let reel = Self {
+            pictured: Some(pictured),
+            ..self
+        };
+        Ok(reel.on_to(Stage::EntryCount))
     }
 
-    fn entry_count(self, unit: &[u8]) -> Next
-        ensures { result ≡ entry_count_of self unit.now }
+    #[tactic(auto, unfolding(crate::specs::Machine::entry_count_of))]
+    fn entry_count(self, unit: &[u8]) -> Result<Next, Refusal>
+        ensures { closed self result ≡ entry_count_of self unit.now }
     {
-        if unit.len() < 2 {
-            return self.close(Said::Fault(SHORT_INPUT));
-        }
-        self.on_to(Stage::Entries(word_at(unit, 0)))
+        Refusal::ShortInput.unless(2 <= unit.len())?;
+        Ok(self.on_to(Stage::Entries(word_at(unit, 0))))
     }
 
     // The first of n entries. Counts leave the store alone, and what it holds does not matter.
     #[tactic(auto, using(crate::proofs::Pushes::entry_leads), unfolding(crate::specs::Machine::entry_unit_of, laws::specs::Refusal::lowest))]
-    fn entry_unit(self, n: u16, unit: &[u8]) -> Next
+    fn entry_unit(self, n: u16, unit: &[u8]) -> Result<Next, Refusal>
         requires { 0 < n }
-        ensures { result ≡ entry_unit_of self n [] unit.now }
+        ensures { closed self result ≡ entry_unit_of self n [] unit.now }
     {
-        if unit.len() < 12 {
-            return self.close(Said::Fault(SHORT_INPUT));
-        }
+        Refusal::ShortInput.unless(12 <= unit.len())?;
         let entry = entry::entry_of(unit);
-        if entry.good() {
-            let detector = self.detector;
-            let pushed = detector.push_measured(entry.first(), entry.measured());
-            return self.pushed(Stage::Entries(n - 1), pushed);
-        }
-        self.close(Said::Fault(OUTSIDE))
+        Refusal::Outside.unless(entry.good())?;
+        let pushed = self.detector.push_measured(entry.first(), entry.measured());
+        self.pushed(Stage::Entries(n - 1), pushed)
     }
 
-    fn picture_count(self, unit: &[u8]) -> Next
-        ensures { result ≡ picture_count_of self unit.now }
+    #[tactic(auto, using(crate::proofs::Pushes::closes, crate::proofs::Pushes::goes_on), unfolding(crate::specs::Machine::picture_count_of))]
+    fn picture_count(self, unit: &[u8]) -> Result<Next, Refusal>
+        ensures { closed self result ≡ picture_count_of self unit.now }
     {
-        if unit.len() < 2 {
-            return self.close(Said::Fault(SHORT_INPUT));
-        }
+        Refusal::ShortInput.unless(2 <= unit.len())?;
         let n = word_at(unit, 0);
-        let pictured = self.pictured;
-        let no = picture_count_no(pictured, n);
-        if no != 0 {
-            return self.close(Said::Fault(no));
-        }
-        self.on_to(Stage::Pictures(n))
+        judge_picture_count(self.pictured, n)?;
+        Ok(self.on_to(Stage::Pictures(n)))
     }
 
-    // The first of n pictures.
-    fn picture_unit(self, n: u16, store: &mut [u8], unit: &[u8]) -> Next
+    // The first of n pictures. Where no shape is given none is counted; one that came all the same would have
+    // a shape of 0 rows.
+    #[tactic(auto, using(crate::proofs::Pushes::picture_leads, crate::proofs::Pushes::picture_kept, crate::proofs::Pushes::short_closes, crate::proofs::Pushes::short_keeps, crate::proofs::Pushes::shapeless_closes, crate::proofs::Pushes::shapeless_keeps))]
+    fn picture_unit(self, n: u16, store: &mut [u8], unit: &[u8]) -> Result<Next, Refusal>
         requires { 0 < n }
-        ensures { (result ≡ picture_unit_of self n store.old unit.now) × (store.new ≡ picture_store self store.old unit.now) }
+        ensures value { closed self result ≡ picture_unit_of self n store.old unit.now }
+        ensures store_after { store.new ≡ picture_store self store.old unit.now }
     {
-        let pictured = self.pictured;
-        if (unit.len() as u64) < picture_bytes(pictured) {
-            return self.close(Said::Fault(SHORT_INPUT));
-        }
-        let detector = self.detector;
-        let shape = pictured.shape;
-        let first = pictured.first;
-        let pushed = detector.push(unit, shape, first, store);
+        let Some(pictured) = self.pictured else {
+            return Err(Refusal::Shape);
+        };
+        Refusal::ShortInput.unless(picture_bytes(self.pictured) <= unit.len() as u64)?;
+        let pushed = self
+            .detector
+            .push(unit, pictured.shape, pictured.first, store);
         self.pushed(Stage::Pictures(n - 1), pushed)
     }
 
     #[tactic(auto, unfolding(crate::specs::Machine::end_of))]
-    fn end(self, unit: &[u8]) -> Next
-        ensures { result ≡ end_of self unit.now }
+    fn end(self, unit: &[u8]) -> Result<Next, Refusal>
+        ensures { closed self result ≡ end_of self unit.now }
     {
-        let tally = self.tally;
-        if unit.len() == 0 {
-            return self.close(Said::Totals(tally));
+        Refusal::Outside.unless(unit.len() == 0)?;
+        Ok(self.close(Said::Totals(self.tally)))
+    }
+
+    #[tactic(auto, using(crate::proofs::Pushes::any_store), unfolding(crate::specs::Machine::next_of, crate::specs::Machine::store_after))]
+    fn unit(self, store: &mut [u8], unit: &[u8]) -> Result<Next, Refusal>
+        ensures value { closed self result ≡ next_of self store.old unit.now }
+        ensures store_after { store.new ≡ store_after self store.old unit.now }
+    {
+        match self.stage {
+            Stage::ShapeCount => self.shape_count(unit),
+            Stage::ShapeNumbers => self.shape_numbers(unit),
+            Stage::EntryCount => self.entry_count(unit),
+            Stage::Entries(0) => self.picture_count(unit),
+            Stage::Entries(n) => self.entry_unit(n, unit),
+            Stage::Pictures(0) => self.end(unit),
+            Stage::Pictures(n) => self.picture_unit(n, store, unit),
+            Stage::Done => Ok(Next {
+                reel: self,
+                said: Said::Quiet,
+            }),
         }
-        let trailing = Said::Fault(OUTSIDE);
-        self.close(trailing)
     }
 
     // What a unit leads to: as many bytes as are wanted, or what is left of the file. The store keeps
@@ -400,29 +331,9 @@ impl Reel {
     pub fn next(self, store: &mut [u8], unit: &[u8]) -> Next
         ensures { (result ≡ next_of self store.old unit.now) × (store.new ≡ store_after self store.old unit.now) }
     {
-        let stage = self.stage;
-        match stage {
-            Stage::ShapeCount => self.shape_count(unit),
-            Stage::ShapeNumbers => self.shape_numbers(unit),
-            Stage::EntryCount => self.entry_count(unit),
-            Stage::Entries(n) => {
-                if n == 0 {
-                    self.picture_count(unit)
-                } else {
-                    self.entry_unit(n, unit)
-                }
-            }
-            Stage::Pictures(n) => {
-                if n == 0 {
-                    self.end(unit)
-                } else {
-                    self.picture_unit(n, store, unit)
-                }
-            }
-            Stage::Done => Next {
-                reel: self,
-                said: Said::Quiet,
-            },
+        match self.unit(store, unit) {
+            Ok(next) => next,
+            Err(refusal) => self.close(Said::Fault(refusal)),
         }
     }
 }

@@ -1,7 +1,5 @@
 -- Nothing else would satisfy a contract of `pages`.
 use mathlib.Core.Path.{refl}
-use Rattle.pages.proofs.least.Kinds as least_kinds
-use Rattle.pages.proofs.least.Reads as least
 use Rattle.pages.proofs.Held.nothing.Kinds as nothing_kinds
 use Rattle.pages.proofs.Held.nothing.Reads as nothing
 use Rattle.pages.proofs.Held.count.Kinds as count_kinds
@@ -20,9 +18,6 @@ use Rattle.pages.proofs.next.Kinds as next_kinds
 use Rattle.pages.proofs.next.Reads as next
 use Rattle.unique.specs.Unique.{OneAnswer, OneContent}
 use Rattle.unique.proofs.Law.{same, ◌and◌, once}
-
-pub least_once : OneAnswer 0 least_kinds.ps least_kinds.r least.Post
-least_once κs a x y u v p q = (same p q, refl)
 
 pub nothing_once : OneAnswer 0 nothing_kinds.ps nothing_kinds.r nothing.Post
 nothing_once κs a x y u v p q = (same p q, refl)

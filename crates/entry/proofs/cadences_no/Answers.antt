@@ -1,6 +1,0 @@
-use Rattle.laws.specs.Refusal.{lowest}
-use Rattle.entry.proofs.cadences_no.Goals as goal
-
-pub returns : goal.returns
-unfolding lowest
-returns c = cc
