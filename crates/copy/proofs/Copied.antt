@@ -1,6 +1,6 @@
 -- A list that is written from the front with another, block by block.
 use Prim.Native.Nat.{ℕ, ◌+◌, ◌-◌, ◌*◌, ◌≤◌, min}
-use mathlib.Core.Path.{◌≡◌, refl, sym, ap, ◌∙◌}
+use mathlib.Core.Path.{◌≡◌, refl, sym, ap, subst, ◌∙◌}
 use mathlib.Core.List.{List, [], ◌∷◌, ◌++◌, append_assoc}
 use native.Mathlib.Nat.{le_antisymm}
 use native.Mathlib.Omega.{arith}
@@ -59,8 +59,8 @@ copied_part old src at from n h k =
     rw (span, taken) (copied_all (take n (drop at old)) (take n (drop from src)) (room ∙ sym given))
 
 module _ {A : Type 0} {old src : List A} {n : ℕ} where
-  pub copy_starts : n ≤ length old → n ≤ length src → Copied old src n old 0
-  copy_starts h k = record { within = omega arith; room = h; given = k; long = refl; exact = refl }
+  pub copy_starts : {x : ℕ} → x ≡ 0 → n ≤ length old → n ≤ length src → Copied old src n old x
+  copy_starts e h k = subst (Copied old src n old) (sym e) (record { within = omega arith; room = h; given = k; long = refl; exact = refl })
 
   -- a part that starts at x is written, of the bytes of src that stand there
   turned :
@@ -72,16 +72,16 @@ module _ {A : Type 0} {old src : List A} {n : ℕ} where
       (sym (append_assoc (take x src) (take size (drop x src)) (drop (x + size) old)))
 
   pub copies :
-      {new part : List A} {x span taken : ℕ} (size : ℕ) → Copied old src n new x → x + size ≤ n → span ≡ size → taken ≡ size → part ≡ take taken (drop x src) →
-      Copied old src n (take x new ++ (part ++ drop span (drop x new))) (x + size)
-  copies {new} {part} {x} {span} {taken} size l h s t e =
-      let whole : take x new ++ (part ++ drop span (drop x new)) ≡ take (x + size) src ++ drop (x + size) old =
-      rw (e, s, t) (turned size l) in
+      {new part : List A} {x : ℕ} (at size end : ℕ) → Copied old src n new x → x ≡ at → at + size ≡ end → end ≤ n → part ≡ take size (drop at src) →
+      Copied old src n (take at new ++ (part ++ drop size (drop at new))) end
+  copies {new} {part} {x} at size end l e f h p =
+      let here : Copied old src n new at = subst (Copied old src n new) e l in
+      let whole : take at new ++ (part ++ drop size (drop at new)) ≡ take end src ++ drop end old = rw (p, ← f) (turned size here) in
       record {
         within = h;
         room = l.room;
         given = l.given;
-        long = ap length whole ∙ length_copied old src (x + size) (omega arith) (omega arith);
+        long = ap length whole ∙ length_copied old src end (omega (arith, l.room)) (omega (arith, l.given));
         exact = whole;
       }
 

@@ -6,42 +6,17 @@ ghost use Rattle.laws.specs.Rows.{over};
 
 const BLOCK: usize = 4096;
 
-// Copies src over dst, which is as long, byte by byte.
-fn copy_each(dst: &mut [u8], src: &[u8])
-    requires { length dst.old ≡ length src.now }
-    ensures { dst.new ≡ src.now }
-{
-    let mut i = 0;
-    while i < dst.len() {
-        dst[i] = src[i];
-        i += 1;
-    }
-}
-
-// The same by way of held, which has room for it.
-fn copy_through(dst: &mut [u8], held: &mut [u8], src: &[u8])
-    requires { (length dst.old ≡ length src.now) × (length src.now ≤ length held.old) }
-    ensures { dst.new ≡ src.now }
-{
-    let n = src.len();
-    copy_each(&mut held[0..n], src);
-    copy_each(dst, &held[0..n]);
-}
-
-// The same of 4,096 bytes at most. They go through an array of their own, so that the compiler sees them
-// all read before any is written, and makes one call of C's memmove of both loops.
+// Copies src, of 4,096 bytes at most, over dst, which is as long. They go through an array of their own, so that the
+// compiler sees them all read before any is written, and makes one call of C's memmove: `copy_from_slice` alone
+// becomes a loop that moves sixteen bytes at a time.
 fn copy_block(dst: &mut [u8], src: &[u8])
     requires { (length dst.old ≡ length src.now) × (length src.now ≤ 4096) }
     ensures { dst.new ≡ src.now }
 {
-    let mut held = [0u8; 4096];
-    copy_through(dst, &mut held, src);
-}
-
-fn smaller(a: usize, b: usize) -> usize
-    ensures { result ≡ min a b }
-{
-    if a < b { a } else { b }
+    let mut held = [0u8; BLOCK];
+    let waiting = &mut held[..src.len()];
+    waiting.copy_from_slice(src);
+    dst.copy_from_slice(waiting);
 }
 
 // The n bytes from `start` on, or as many of them as there are.
@@ -49,8 +24,8 @@ pub fn part<'a>(bytes: &'a [u8], start: usize, n: usize) -> &'a [u8]
     ensures result_value { result.now ≡ take n (drop start bytes.now) }
     ensures ref_ptr_value { result.ref_ptr ≡ (bytes.entry.ref_ptr.0, min start (length bytes.now) + bytes.entry.ref_ptr.1) }
 {
-    let from = smaller(start, bytes.len());
-    let size = smaller(n, bytes.len() - from);
+    let from = start.min(bytes.len());
+    let size = n.min(bytes.len() - from);
     &bytes[from..from + size]
 }
 
@@ -58,11 +33,9 @@ pub fn part<'a>(bytes: &'a [u8], start: usize, n: usize) -> &'a [u8]
 pub fn copy_front(dst: &mut [u8], src: &[u8])
     ensures { dst.new ≡ over (take (length dst.old) src.now) dst.old }
 {
-    let n = smaller(dst.len(), src.len());
-    let mut at = 0;
-    while BLOCK < n - at {
-        copy_block(&mut dst[at..at + BLOCK], &src[at..at + BLOCK]);
-        at += BLOCK;
+    let n = dst.len().min(src.len());
+    for at in (0..n).step_by(BLOCK) {
+        let end = n.min(at + BLOCK);
+        copy_block(&mut dst[at..end], &src[at..end]);
     }
-    copy_block(&mut dst[at..n], &src[at..n]);
 }

@@ -1,13 +1,11 @@
--- A packed number by its halves.
-use Prim.Native.Nat.{ℕ, ◌+◌, ◌*◌}
+-- A number's eight bytes, as the library writes them.
+use Prim.Native.Nat.{ℕ, ◌/◌}
 use mathlib.Core.Path.{◌≡◌}
-use mathlib.Core.List.{List}
-use native.Mathlib.Nat.{add-zero, add_assoc}
-use native.Mathlib.Omega.{arith}
-use Rattle.laws.specs.Sums.{sum_over}
-use Rattle.packed.specs.Packed.{number_at}
-use Rattle.packed.specs.Inner.{four_bytes}
+use native.Mathlib.Nat.{div-one}
+use Rattle.std.specs.Int.{w64, to_le_bytes}
+use Rattle.laws.specs.Rows.{listed}
+use Rattle.packed.specs.Packed.{eight_bytes}
 
-pub by_halves : (bytes : List ℕ) (k : ℕ) → four_bytes bytes (8 * k) + 4294967296 * four_bytes bytes (8 * k + 4) ≡ number_at bytes k
-unfolding number_at sum_over
-by_halves bytes k = simp (add-zero, add_assoc) (omega arith)
+pub eight_written : (n : ℕ) → to_le_bytes w64 n ≡ eight_bytes n
+unfolding eight_bytes listed
+eight_written n = let whole : n / 1 ≡ n = div-one n in rw whole

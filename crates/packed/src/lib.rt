@@ -2,46 +2,31 @@
 // calls.
 #![tactic(auto)]
 
-ghost use Rattle.std.specs.Prelude.{◌≡◌, ◌%◌, ◌<◌, ◌^◌, length, get_or};
+ghost use Rattle.std.specs.Prelude.{◌≡◌, ◌%◌, length};
 ghost use Rattle.laws.specs.Refusal.{written};
 ghost use Rattle.laws.specs.Rows.{over};
-ghost use Rattle.packed.specs.Packed.{eight_bytes, packed_of, number_at, pack_no};
-ghost use Rattle.packed.specs.Inner.{two_bytes, four_bytes};
+ghost use Rattle.refusal.specs.Refusal.{no_of};
+ghost use Rattle.packed.specs.Packed.{packed_of, number_at, pack_no};
 
-fn wide(byte: u8) -> u64
-    ensures { (result ≡ byte) × (result < 256) }
-{
-    byte as u64
-}
-
-fn byte_at(bytes: &[u8], i: usize) -> u64
-    ensures { (result ≡ get_or bytes.now i 0) × (result < 256) }
-{
-    if i < bytes.len() { wide(bytes[i]) } else { 0 }
-}
-
-fn two_at(bytes: &[u8], i: usize) -> u64
-    requires { i < 2 ^ 21 }
-    ensures { (result ≡ two_bytes bytes.now i) × (result < 2 ^ 16) }
-{
-    let low = byte_at(bytes, i);
-    let high = byte_at(bytes, i + 1);
-    low + 256 * high
-}
-
-fn four_at(bytes: &[u8], i: usize) -> u64
-    requires { i < 2 ^ 20 }
-    ensures { (result ≡ four_bytes bytes.now i) × (result < 2 ^ 32) }
-{
-    two_at(bytes, i) + 65536 * two_at(bytes, i + 2)
-}
+use refusal::Refusal;
 
 // The number `place` of the bytes, which count as 0 past their end.
+#[tactic(auto, unfolding(crate::specs::Packed::number_at, laws::specs::Sums::sum_over))]
 pub fn number_at(bytes: &[u8], place: u16) -> u64
     ensures { result ≡ number_at bytes.now place }
 {
-    let start = 8 * (place as usize);
-    four_at(bytes, start) + 4294967296 * four_at(bytes, start + 4)
+    let start = 8 * usize::from(place);
+    let byte = |i: usize| bytes.get(start + i).copied().unwrap_or(0);
+    u64::from_le_bytes([
+        byte(0),
+        byte(1),
+        byte(2),
+        byte(3),
+        byte(4),
+        byte(5),
+        byte(6),
+        byte(7),
+    ])
 }
 
 // The low two bytes of a number, and its low byte; what stands above them is dropped.
@@ -57,33 +42,16 @@ pub fn byte_in(number: u64) -> u8
     (number % 256) as u8
 }
 
-// A number into a place of just its eight bytes.
-fn write_number(to: &mut [u8], number: u64)
-    requires { length to.old ≡ 8 }
-    ensures { to.new ≡ eight_bytes number }
-{
-    let mut left = number;
-    let mut i = 0;
-    while i < to.len() {
-        to[i] = (left % 256) as u8;
-        left = left / 256;
-        i += 1;
-    }
-}
-
 // The numbers, one after another from the front of the bytes. What lies behind stays. Number 7.
-pub fn write_numbers(bytes: &mut [u8], numbers: &[u64]) -> u8
-    ensures value { result ≡ pack_no (length numbers.now) (length bytes.old) }
-    ensures bytes_after { bytes.new ≡ written result (over (packed_of numbers.now) bytes.old) bytes.old }
+#[tactic(auto, unfolding(laws::specs::Refusal::lowest))]
+pub fn write_numbers(bytes: &mut [u8], numbers: &[u64]) -> Result<(), Refusal>
+    ensures value { no_of result ≡ pack_no (length numbers.now) (length bytes.old) }
+    ensures bytes_after { bytes.new ≡ written (no_of result) (over (packed_of numbers.now) bytes.old) bytes.old }
 {
-    if bytes.len() / 8 < numbers.len() {
-        return refusal::SHORT_OUTPUT;
-    }
-    let mut k = 0;
-    while k < numbers.len() {
+    Refusal::ShortOutput.unless(8 * numbers.len() <= bytes.len())?;
+    for (k, number) in numbers.iter().enumerate() {
         let start = k * 8;
-        write_number(&mut bytes[start..start + 8], numbers[k]);
-        k += 1;
+        bytes[start..start + 8].copy_from_slice(&number.to_le_bytes());
     }
-    0
+    Ok(())
 }

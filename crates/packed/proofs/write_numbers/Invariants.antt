@@ -1,5 +1,4 @@
 -- The loop keeps `Stacked` of the numbers passed.
-use Prim.Native.Nat.{◌-◌}
 use lib.ListN.{length, get_or}
 use Rattle.laws.proofs.Lists.{Stacked}
 use Rattle.packed.specs.Packed.{eight_bytes}
@@ -7,6 +6,3 @@ use Rattle.packed.proofs.write_numbers.Given as goal
 
 abbrev pub invariant-loop-k : goal.invariant-loop-k
 invariant-loop-k l = Stacked (λ k'. eight_bytes (get_or l.numbers k' 0)) 8 (length l.numbers) l.initial.bytes l.bytes l.k
-
-abbrev pub decreases-loop-k : goal.decreases-loop-k
-decreases-loop-k l = length l.numbers - l.k

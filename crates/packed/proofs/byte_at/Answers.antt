@@ -1,7 +1,0 @@
-use native.Mathlib.Omega.{arith}
-use lib.ListN.{get_or-eq_default}
-use mathlib.Core.Path.{sym}
-use Rattle.packed.proofs.byte_at.Goals as goal
-
-pub returns-else-i-bytes : goal.returns-else-i-bytes
-returns-else-i-bytes c = (sym (get_or-eq_default c.args.bytes.now 0 c.if-i-bytes.false), omega arith)
