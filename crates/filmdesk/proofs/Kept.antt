@@ -7,11 +7,11 @@ use native.Mathlib.Omega.{arith}
 use borrow.Author.Tests.{le-leb}
 use Rattle.std.specs.Prelude.{Option, Some, None}
 use lib.Dec.{eqb}
-use lib.ListN.{length, take, drop, length-append, length-set}
+use lib.ListN.{length, get_or, take, drop, length-append, length-set}
 use lib.Seq.{get_or-take, take_at, drop_at, drop-drop, length-take-le}
 use Rattle.laws.specs.Refusal.{lowest, written}
-use Rattle.laws.specs.Rows.{over}
-use Rattle.laws.proofs.Lists.{length_listed}
+use Rattle.laws.specs.Rows.{listed, over}
+use Rattle.laws.proofs.Lists.{length_listed, listed_again, same_listed, part_length, part_at}
 use Rattle.laws.proofs.Rows.{over_all}
 use Rattle.laws.proofs.Sums.{same_terms}
 use Rattle.field.specs.declared.Parity.{Parity}
@@ -56,6 +56,11 @@ module _ (numbers state : List ℕ) (ten : length numbers ≡ 10) (room : 96 ≤
 pub front_number : (bytes : List ℕ) (k : ℕ) → k < 10 → number_at (take 96 bytes) k ≡ number_at bytes k
 unfolding number_at
 front_number bytes k h = same_terms 8 _ _ (λ i l. ap (λ (b : ℕ). b * 256 ^ i) (get_or-take 96 bytes (8 * k + i) 0 (omega arith)))
+
+pub ring_read : (bytes : List ℕ) → 96 ≤ length bytes → take 15 (drop 80 bytes) ≡ listed 15 (λ i. get_or bytes (80 + i) 0)
+ring_read bytes long =
+    sym (listed_again (take 15 (drop 80 bytes)) 15 0 (sym (part_length bytes 80 15 (omega (arith, long)))))
+    ∙ same_listed 15 _ _ (λ x h. part_at bytes 80 15 x 0 h)
 
 -- ---- the ring of every detector that a call hands back has 15 places
 pub found_ring : (bytes : List ℕ) → length (detector_in bytes).lock.ring ≡ 15

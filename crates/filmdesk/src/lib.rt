@@ -46,7 +46,7 @@ fn chosen_in(number: u64) -> Option<Parity>
     }
 }
 
-#[tactic(auto, unfolding(crate::specs::Kept::detector_in))]
+#[tactic(auto, using(crate::proofs::Kept::ring_read), unfolding(crate::specs::Kept::detector_in))]
 fn ring_in(state: &[u8]) -> [u8; 15]
     requires { 96 ≤ length state.now }
     ensures { result ≡ (detector_in state.now).lock.ring }
@@ -57,6 +57,7 @@ fn ring_in(state: &[u8]) -> [u8; 15]
 }
 
 // Of a part whose length is known, no number has to be tested for where the bytes end.
+#[tactic(auto, using(crate::proofs::Kept::front_number), unfolding(crate::specs::Kept::detector_in))]
 fn course_in(state: &[u8]) -> Course
     requires { 96 ≤ length state.now }
     ensures { result ≡ (detector_in state.now).lock.course }
@@ -72,6 +73,7 @@ fn course_in(state: &[u8]) -> Course
     }
 }
 
+#[tactic(auto, using(crate::proofs::Kept::front_number), unfolding(crate::specs::Kept::detector_in))]
 fn kept_in(state: &[u8]) -> Kept
     requires { 96 ≤ length state.now }
     ensures { result ≡ (detector_in state.now).kept }
@@ -85,6 +87,7 @@ fn kept_in(state: &[u8]) -> Kept
     }
 }
 
+#[tactic(auto, using(crate::proofs::Kept::front_number), unfolding(crate::specs::Kept::detector_in))]
 fn last_in(state: &[u8]) -> Option<Parity>
     requires { 96 ≤ length state.now }
     ensures { result ≡ (detector_in state.now).last }
@@ -178,7 +181,8 @@ fn keep_apart(
     ensures { state.new ≡ keeping (detector_with ring.now course kept last) state.old }
 {
     let numbers = numbers_of(course, kept, last);
-    packed::write_numbers(&mut state[..RING], &numbers);
+    // Ten numbers have just the room that they need, so that none is refused.
+    let _ = packed::write_numbers(&mut state[0..RING], &numbers);
     write_ring(&mut state[RING..STATE_BYTES], ring, course.phase);
 }
 
