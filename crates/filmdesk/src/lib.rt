@@ -116,12 +116,13 @@ fn outline_in(state: &[u8]) -> Detector
     ensures { result ≡ detector_with (replicate 15 0) (detector_in state.now).lock.course nothing_kept (detector_in state.now).last }
 {
     let fresh = Detector::new();
+    let led = last_in(state);
     Detector {
         lock: Lock {
             course: course_in(state),
             ..fresh.lock
         },
-        last: last_in(state),
+        last: led,
         ..fresh
     }
 }
@@ -170,13 +171,7 @@ fn write_ring(to: &mut [u8], ring: &[u8; 15], phase: u8)
 }
 
 // Writes a detector to a state that is long enough.
-fn keep_apart(
-    state: &mut [u8],
-    ring: &[u8; 15],
-    course: Course,
-    kept: Kept,
-    last: Option<Parity>,
-)
+fn keep_apart(state: &mut [u8], ring: &[u8; 15], course: Course, kept: Kept, last: Option<Parity>)
     requires { (96 ≤ length state.old) × (length ring.now ≡ 15) }
     ensures { state.new ≡ keeping (detector_with ring.now course kept last) state.old }
 {
@@ -230,12 +225,13 @@ fn measured_named(
     if present == 0 {
         return None;
     }
-    let leading = Counts { busy, total };
-    let trailing = Counts {
-        busy: other_busy,
-        total: other_total,
-    };
-    Some(Measured { leading, trailing })
+    Some(Measured {
+        leading: Counts { busy, total },
+        trailing: Counts {
+            busy: other_busy,
+            total: other_total,
+        },
+    })
 }
 
 // What refuses a picture before the detector in the state is looked at.
