@@ -47,6 +47,7 @@ fn front<'a>(page: &'a [u8], n: usize) -> &'a [u8]
 
 // The number of the refusal with which a text ends, and 0 where it ends with none. Of all lines only a
 // refusal's has a `d` and a space before its last word (`TellsWhatWasSaid`).
+#[tactic(auto, unfolding(crate::specs::Told::refusal_in))]
 fn refusal(text: &[u8]) -> u8
     ensures { result ≡ refusal_in text.now }
 {

@@ -1,6 +1,5 @@
 -- Laws that the proofs of this crate share, and the claims.
 pub mod Texts
 pub mod Decimal
-pub mod Stepping
 pub mod Served
 pub mod Claims

@@ -5,7 +5,7 @@ use mathlib.Core.Path.{◌≡◌, sym, ◌∙◌}
 use mathlib.Core.List.{List, [], ◌++◌, append_assoc}
 use lib.ListN.{length, take, drop, length-append, take-append-drop}
 use native.Mathlib.Omega.{arith}
-use lib.Seq.{paste, take-append_seam, drop-append-add, drop-drop, take-length, take-append-add, length-take-le}
+use lib.Seq.{take-append_seam, drop-append-add, drop-drop, take-append-add, length-take-le}
 use Rattle.pages.specs.Pages.{put}
 use Rattle.listing.specs.Lines.{Wrote}
 

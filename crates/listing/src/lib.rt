@@ -93,6 +93,7 @@ fn totals_line(out: &mut [u8], at: usize, tally: Tally) -> usize
     add(out, none, b"\n")
 }
 
+#[tactic(auto, using(crate::proofs::Texts::wrote_nothing))]
 fn line(out: &mut [u8], at: usize, said: Said) -> usize
     requires { at + 128 ≤ length out.old }
     ensures { Wrote out.old at out.new result (text_of said) × (result ≤ at + 128) }
@@ -113,7 +114,8 @@ pub fn write(out: &mut [u8], at: usize, said: Said) -> usize
     ensures out_after { out.new ≡ put_line out.old at said }
     ensures upper_bound { result ≤ max at (length out.old) }
 {
-    if LONGEST_LINE <= out.len().saturating_sub(at) {
+    let room = out.len();
+    if LONGEST_LINE <= room.saturating_sub(at) {
         line(out, at, said)
     } else {
         at
@@ -171,16 +173,18 @@ impl Lister {
     {
         let want = self.reel.want() as usize;
         let next = self.reel.next(store, self.held.unit(buffer, want));
+        let end = line(page, self.used, next.said);
         Self {
             reel: next.reel,
             held: self.held.without(want),
-            used: line(page, self.used, next.said),
+            used: end,
             ..self
         }
     }
 
     // One step: a unit is read and its line written, or what is held moves to the front for a read, or
     // the page is given out to be written.
+    #[tactic(auto, using(pages::proofs::Parts::unit_room))]
     pub fn step(self, buffer: &mut [u8], store: &mut [u8], page: &mut [u8]) -> Step
         ensures ask_value { result.ask ≡ ask_from self buffer.old store.old page.old }
         ensures page_after { program_of result.lister buffer.new store.new page.new ≡ step_from self buffer.old store.old page.old }
@@ -193,13 +197,16 @@ impl Lister {
                 lister: self.unit(buffer, store, page),
                 ask,
             },
-            Ask::Read(_) => Step {
-                lister: Self {
-                    held: self.held.front(buffer),
-                    ..self
-                },
-                ask,
-            },
+            Ask::Read(_) => {
+                let front = self.held.front(buffer);
+                Step {
+                    lister: Self {
+                        held: front,
+                        ..self
+                    },
+                    ask,
+                }
+            }
             Ask::Write(_) => Step {
                 lister: Self { used: 0, ..self },
                 ask,

@@ -1,7 +1,6 @@
 -- That a shape's numbers are cut to their places changes nothing: one that is cut is out of bounds, cut or not.
 use Prim.Native.Nat.{ℕ}
 use mathlib.Core.Path.{◌≡◌}
-use mathlib.Core.Bool.{true}
 use mathlib.Core.List.{List, [], ◌∷◌}
 use lib.Dec.{leb}
 use Rattle.laws.specs.Refusal.{lowest, rising}

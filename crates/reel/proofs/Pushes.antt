@@ -32,7 +32,7 @@ use Rattle.reel.specs.declared.Stage.TheVariants.{Entries, Pictures}
 use Rattle.reel.specs.declared.Reel.{Reel}
 use Rattle.reel.specs.declared.Next.{Next}
 use Rattle.reel.specs.Reel.{picture_bytes, refused}
-use Rattle.reel.specs.Machine.{reel_of, close, tallied_in, state_of, pushed_of, entry_unit_of, picture_in, picture_unit_of, picture_store}
+use Rattle.reel.specs.Machine.{reel_of, close, tallied_in, state_of, pushed_of, entry_unit_of, picture_unit_of, picture_store}
 use Rattle.reel.specs.Inner.{answered_as, pushed_as}
 
 -- ---- a refusal and its number

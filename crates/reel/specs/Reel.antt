@@ -1,6 +1,6 @@
 -- What a reel file says (docs/RULES.md, "Reel file and listing"): its frames in order, and how it ends, from the bytes alone, section after
 -- section. Any list of bytes whatever says something.
-use Rattle.std.specs.Prelude.{ℕ, zero, suc, ◌+◌, ◌*◌, Bool, true, false, cond, ◌||◌, List, [], ◌∷◌, Option, Some, None, eqb, leb, length, take, drop, replicate}
+use Rattle.std.specs.Prelude.{ℕ, zero, suc, ◌+◌, ◌*◌, Bool, cond, ◌||◌, List, [], ◌∷◌, Option, Some, None, eqb, leb, length, take, drop, replicate}
 use Rattle.std.specs.Option.{is_some}
 use Rattle.laws.specs.Refusal.{lowest}
 use Rattle.refusal.specs.declared.Refusal.{Refusal}

@@ -115,8 +115,9 @@ fn judge_picture_count(pictured: Option<Pictured>, n: u16) -> Result<(), Refusal
     ensures { no_of result ≡ lowest (picture_count_tests pictured n) }
 {
     let none = n == 0;
+    let small = picture_bytes(pictured) <= 16384;
     Refusal::Outside.unless(none || pictured.is_some())?;
-    Refusal::ShortOutput.unless(none || picture_bytes(pictured) <= 16384)
+    Refusal::ShortOutput.unless(none || small)
 }
 
 impl Tally {
