@@ -111,5 +111,5 @@ pub extern "C" fn desk_plane(
     }
     let rows = filter::Rows::field(u32::from(first));
     let making = making_named(quality, rows, before_shape, cur_shape, after_shape);
-    refusal::number(fill::plane(out, making, before, cur, after))
+    refusal::told(fill::plane(out, making, before, cur, after))
 }

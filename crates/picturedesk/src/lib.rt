@@ -159,7 +159,7 @@ pub extern "C" fn desk_picture<'a>(
         return Refusal::Outside.number();
     }
     let asked = asked_named(quality, output, conversion, previous, current, next);
-    refusal::number(picture::picture_of(
+    refusal::told(picture::picture_of(
         out,
         asked,
         previous_luma,

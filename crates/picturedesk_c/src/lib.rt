@@ -5,6 +5,7 @@
 ghost use Rattle.std.specs.Prelude.{◌≡◌};
 ghost use Rattle.picturedesk.specs.Pictures.{named_no, named_out};
 
+use colour::Conversion;
 use picturedesk::{FrameNumbers, OutputNumbers};
 
 // A picture of four bytes a pixel, red, green, blue and 255. The quality is 0 Weave, 1 Bob, 2 Yadif,
@@ -13,7 +14,7 @@ use picturedesk::{FrameNumbers, OutputNumbers};
 pub extern "C" fn desk_picture<'a>(
     quality: u8,
     output: OutputNumbers,
-    conversion: colour::Conversion,
+    conversion: Conversion,
     previous: FrameNumbers,
     previous_luma: &'a [u8],
     previous_cb: &'a [u8],

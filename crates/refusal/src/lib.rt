@@ -56,12 +56,12 @@ impl fmt::Display for Refusal {
 
 impl Error for Refusal {}
 
-// The number that a host gets: 0 for done.
-pub fn number<T: Drop>(answer: Result<T, Refusal>) -> u8
+// What a host is told: 0 for done.
+pub fn told(answer: Result<(), Refusal>) -> u8
     ensures { result ≡ no_of answer }
 {
     match answer {
-        Ok(_) => 0,
+        Ok(()) => 0,
         Err(refusal) => refusal.number(),
     }
 }

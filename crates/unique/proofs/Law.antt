@@ -1,13 +1,8 @@
 -- Why one answer is left: what a contract says of a result, or of a lent place, is an equation with one and the same thing. In each lemma p is what
 -- the contract says of the first answer, clause by clause, and q of the second.
-use Prim.Native.Nat.{ℕ, ◌<◌}
+use Prim.Native.Nat.{ℕ}
 use mathlib.Core.Path.{◌≡◌, sym, ap, subst, ◌∙◌}
 use mathlib.Core.List.{List}
-use native.Mathlib.Omega.{arith}
-use Rattle.std.proofs.Common.{Result, Ok, Err}
-use Rattle.refusal.specs.declared.Refusal.{Refusal}
-use Rattle.refusal.specs.Refusal.{number_of, no_of}
-use Rattle.refusal.proofs.Claims.{numbers_tell}
 use seplogic.Ra.Ura.{Ura}
 use base.Logic.{ent}
 use contract.Monad.{conj, conj_l, conj_r, fact, fact_i, fact_use}
@@ -24,19 +19,6 @@ same e f = e ∙ sym f
 -- And two that come in one way from two equal numbers.
 pub same_by : {A : Type 0} (f : ℕ → A) {m n : ℕ} {x y : A} → m ≡ n → x ≡ f m → y ≡ f n → x ≡ y
 same_by f e p q = same (p ∙ ap f e) q
-
--- An answer with no value is settled by its number.
-pub one_done : {A : Type 0} → ((u v : A) → u ≡ v) → (a b : Result A Refusal) → no_of a ≡ no_of b → a ≡ b
-one_done one (Ok u) (Ok v) e = ap Ok (one u v)
-one_done one (Ok u) (Err r) e = absurd (nought e)
-  where
-    nought : 0 ≡ number_of r → ⊥
-    nought e = omega (arith, e, numbers_tell.0 r)
-one_done one (Err r) (Ok v) e = absurd (nought e)
-  where
-    nought : number_of r ≡ 0 → ⊥
-    nought e = omega (arith, e, numbers_tell.0 r)
-one_done one (Err r) (Err s) e = ap Err (numbers_tell.1 r s e)
 
 -- Lent memory is a tuple, with nothing at a parameter that is not lent for writing. It is equal where each of its parts is.
 pub ◌and◌ : {A B : Type 0} {u v : A × B} → u.0 ≡ v.0 → u.1 ≡ v.1 → u ≡ v

@@ -33,9 +33,3 @@ abbrev pub OneAnswerBy : {M : Type 1} (𝓤 : Ura M) (T : Ended) → Clauses �
 OneAnswerBy 𝓤 T meets =
     (κs : Lfts T.signature.lifetimes) (a : Args T.signature κs) (g : (meets κs a).ghost) (x y : Res T.signature κs) (s t : AtExit T κs) →
     ent 𝓤 (conj 𝓤 ((meets κs a).ensures g x s) ((meets κs a).ensures g y t)) (fact 𝓤 (x ≡ y))
-
--- The same of a generic function: the result alone, since what a parameter of any type holds of lent memory its contract cannot name.
-abbrev pub OneResult : (n : ℕ) (ps : List (ParamKind n)) (r : ResultKind n) → Out n ps r → Type 0
-OneResult n ps r meets =
-    (κs : Lfts n) (a : Dens κs ps) (x y : (res_t r κs).Denot) (u v : Lasts (ended_of n ps r) κs a) →
-    meets κs a x (at_exit (ended_of n ps r) κs a u) → meets κs a y (at_exit (ended_of n ps r) κs a v) → x ≡ y

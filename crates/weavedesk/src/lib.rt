@@ -277,7 +277,7 @@ pub extern "C" fn desk_weave(
     ensures out_cb_after { out_cb.new ≡ woven_after result top_cb.now (grid_named top.cb) bottom_cb.now (grid_named bottom.cb) out_cb.old }
     ensures out_cr_after { out_cr.new ≡ woven_after result top_cr.now (grid_named top.cr) bottom_cr.now (grid_named bottom.cr) out_cr.old }
 {
-    refusal::number(weave::weave(
+    refusal::told(weave::weave(
         out_luma,
         out_cb,
         out_cr,
@@ -328,7 +328,7 @@ pub extern "C" fn desk_line_number(
     ensures { result ≡ line_no (grid_named top) top_bytes (grid_named bottom) bottom_bytes y }
 {
     let answer = line_fits(top, top_bytes as usize, bottom, bottom_bytes as usize, y);
-    refusal::number(answer)
+    refusal::told(answer)
 }
 
 // The bytes of a single woven line, copied out, of fields with at most 2,176 lines. Numbers 3 to 7.
@@ -418,7 +418,7 @@ pub extern "C" fn desk_readback_copy(
     ensures out_cb_after { out_cb.new ≡ copied_after result second.now (cb_shape (readback_named about)) out_cb.old }
     ensures out_cr_after { out_cr.new ≡ copied_after result (cr_bytes_of (readback_named about) second.now third.now) (cr_shape (readback_named about)) out_cr.old }
 {
-    refusal::number(readback::readback_copy(
+    refusal::told(readback::readback_copy(
         out_luma,
         out_cb,
         out_cr,
