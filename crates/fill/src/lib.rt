@@ -121,40 +121,6 @@ const LATER: usize = 3668;
 // Of cur, the row three above, and behind it the row three below.
 const FAR_ABOVE: usize = 4192;
 
-// ---- a sample, from expanded rows. Place `start + x + n` of a row holds the column that is n - 6 to the
-// right of the tile's column x.
-
-fn at(rows: &[f32], start: usize, x: usize, n: usize) -> f32
-    requires { (length rows.now ≡ 5240) × (start ≤ 4716) × (x ≤ 511) × (n ≤ 12) }
-    ensures { (v : Sampler) (from count : ℕ) (y : ℤ) → RowOf rows.now start from count y v → x < count → result ≡ v (pos (from + x) +ℤ sub_ℕ n 6) y }
-{
-    rows[start + (x + n)]
-}
-
-// A slant j of -2 to 2 is held as t = j + 2.
-fn score(rows: &[f32], x: usize, t: usize) -> f32
-    requires { (length rows.now ≡ 5240) × (x ≤ 511) × (t ≤ 4) }
-    ensures { (v : Sampler) (from count : ℕ) (y : ℤ) → Around rows.now 0 from count y one v → x < count → result ≡ score_of v (pos (from + x)) y (step t) }
-{
-    filter::gap(at(rows, ABOVE, x, 3 + t), at(rows, BELOW, x, 7 - t))
-        + filter::gap(at(rows, ABOVE, x, 4 + t), at(rows, BELOW, x, 8 - t))
-        + filter::gap(at(rows, ABOVE, x, 5 + t), at(rows, BELOW, x, 9 - t))
-}
-
-fn near(rows: &[f32], x: usize, t: usize) -> f32
-    requires { (length rows.now ≡ 5240) × (x ≤ 511) × (t ≤ 4) }
-    ensures { (v : Sampler) (from count : ℕ) (y : ℤ) → Around rows.now 0 from count y one v → x < count → result ≡ near_of v (pos (from + x)) y (step t) }
-{
-    at(rows, ABOVE, x, 4 + t) + at(rows, BELOW, x, 8 - t)
-}
-
-fn far(rows: &[f32], start: usize, x: usize, t: usize) -> f32
-    requires { (length rows.now ≡ 5240) × (start ≤ 4192) × (x ≤ 511) × (t ≤ 4) }
-    ensures { (v : Sampler) (from count : ℕ) (y off : ℤ) → Around rows.now start from count y off v → x < count → result ≡ along_of v (pos (from + x)) y off (step t) }
-{
-    at(rows, start, x, 3 * t) + at(rows, start + 524, x, 12 - 3 * t)
-}
-
 // The best slant so far: its score, and the sums along it one row and three rows off. Carrying the sums
 // instead of the slant spares a look-up at a place that only the run decides, which no vector has.
 #[derive(Clone, Copy)]
@@ -175,47 +141,89 @@ fn better(best: Pick, score: f32, near: f32, far: f32) -> Pick
     }
 }
 
-fn tried(rows: &[f32], start: usize, x: usize, best: Pick, t: usize, steep: f32) -> Pick
-    requires { (length rows.now ≡ 5240) × (start ≤ 4192) × (x ≤ 511) × (t ≤ 4) × (steep ≡ of_int binary32 (pos (nat_abs (step t)))) }
-    ensures { Tries rows.now start x t best result }
-{
-    let cost = score(rows, x, t) + 0.002 * steep;
-    better(best, cost, near(rows, x, t), far(rows, start, x, t))
+// ---- a column of a tile, from expanded rows. Place `start + x + n` of a row holds the column that is n - 6 to the
+// right of the tile's column x.
+
+#[derive(Clone, Copy)]
+struct Column<'a> {
+    rows: &'a [f32],
+    x: usize,
 }
 
-// Along the best slant. FAR is where the rows three off stand: Yadif asks for nothing there, so the rows one off
-// stand in. A const parameter, since a function this large is inlined only where it has one caller, as each
-// instance has, and only what is inlined is vectorised.
-fn edge<const FAR: usize>(rows: &[f32], x: usize) -> Pick
-    requires { (length rows.now ≡ 5240) × (x ≤ 511) × (FAR ≤ 4192) }
-    ensures { Picks rows.now FAR x result }
-{
-    let straight = Pick {
-        score: score(rows, x, 2),
-        near: near(rows, x, 2),
-        far: far(rows, FAR, x, 2),
-    };
-    let left = tried(rows, FAR, x, straight, 1, 1.0);
-    let right = tried(rows, FAR, x, left, 3, 1.0);
-    let far_left = tried(rows, FAR, x, right, 0, 2.0);
-    tried(rows, FAR, x, far_left, 4, 2.0)
-}
+impl Column<'_> {
+    fn at(self, start: usize, n: usize) -> f32
+        requires { (length self.rows.now ≡ 5240) × (start ≤ 4716) × (self.x ≤ 511) × (n ≤ 12) }
+        ensures { (v : Sampler) (from count : ℕ) (y : ℤ) → RowOf self.entry.rows.now start from count y v → self.entry.x < count → result ≡ v (pos (from + self.entry.x) +ℤ sub_ℕ n 6) y }
+    {
+        self.rows[start + (self.x + n)]
+    }
 
-fn in_motion(rows: &[f32], x: usize, along: f32) -> f32
-    requires { (length rows.now ≡ 5240) × (x ≤ 511) }
-    ensures { (before cur after : Sampler) (from count : ℕ) (y : ℤ) → Motion rows.now from count y before cur after → x < count → result ≡ in_motion_of before cur after (pos (from + x)) y along }
-{
-    let earlier = at(rows, EARLIER, x, 6);
-    let later = at(rows, LATER, x, 6);
-    let c = at(rows, ABOVE, x, 6);
-    let e = at(rows, BELOW, x, 6);
-    let average = filter::mean(earlier, later);
-    let change = filter::gap(earlier, later);
-    let up = filter::wider(at(rows, EARLIER_UP, x, 6), at(rows, LATER_UP, x, 6), c);
-    let down = filter::wider(at(rows, EARLIER_DOWN, x, 6), at(rows, LATER_DOWN, x, 6), e);
-    let outside = filter::beyond(average, c, e);
-    let half = float::max(float::max(change, up), down) * 0.5;
-    filter::hold(along, average, float::max(half, outside))
+    // A slant j of -2 to 2 is held as t = j + 2.
+    fn score(self, t: usize) -> f32
+        requires { (length self.rows.now ≡ 5240) × (self.x ≤ 511) × (t ≤ 4) }
+        ensures { (v : Sampler) (from count : ℕ) (y : ℤ) → Around self.entry.rows.now 0 from count y one v → self.entry.x < count → result ≡ score_of v (pos (from + self.entry.x)) y (step t) }
+    {
+        filter::gap(self.at(ABOVE, 3 + t), self.at(BELOW, 7 - t))
+            + filter::gap(self.at(ABOVE, 4 + t), self.at(BELOW, 8 - t))
+            + filter::gap(self.at(ABOVE, 5 + t), self.at(BELOW, 9 - t))
+    }
+
+    fn near(self, t: usize) -> f32
+        requires { (length self.rows.now ≡ 5240) × (self.x ≤ 511) × (t ≤ 4) }
+        ensures { (v : Sampler) (from count : ℕ) (y : ℤ) → Around self.entry.rows.now 0 from count y one v → self.entry.x < count → result ≡ near_of v (pos (from + self.entry.x)) y (step t) }
+    {
+        self.at(ABOVE, 4 + t) + self.at(BELOW, 8 - t)
+    }
+
+    fn far(self, start: usize, t: usize) -> f32
+        requires { (length self.rows.now ≡ 5240) × (start ≤ 4192) × (self.x ≤ 511) × (t ≤ 4) }
+        ensures { (v : Sampler) (from count : ℕ) (y off : ℤ) → Around self.entry.rows.now start from count y off v → self.entry.x < count → result ≡ along_of v (pos (from + self.entry.x)) y off (step t) }
+    {
+        self.at(start, 3 * t) + self.at(start + 524, 12 - 3 * t)
+    }
+
+    fn tried(self, start: usize, best: Pick, t: usize, steep: f32) -> Pick
+        requires { (length self.rows.now ≡ 5240) × (start ≤ 4192) × (self.x ≤ 511) × (t ≤ 4) × (steep ≡ of_int binary32 (pos (nat_abs (step t)))) }
+        ensures { Tries self.entry.rows.now start self.entry.x t best result }
+    {
+        let cost = self.score(t) + 0.002 * steep;
+        better(best, cost, self.near(t), self.far(start, t))
+    }
+
+    // Along the best slant. FAR is where the rows three off stand: Yadif asks for nothing there, so the rows one off
+    // stand in. A const parameter, since a function this large is inlined only where it has one caller, as each
+    // instance has, and only what is inlined is vectorised.
+    fn edge<const FAR: usize>(self) -> Pick
+        requires { (length self.rows.now ≡ 5240) × (self.x ≤ 511) × (FAR ≤ 4192) }
+        ensures { Picks self.entry.rows.now FAR self.entry.x result }
+    {
+        let straight = Pick {
+            score: self.score(2),
+            near: self.near(2),
+            far: self.far(FAR, 2),
+        };
+        let left = self.tried(FAR, straight, 1, 1.0);
+        let right = self.tried(FAR, left, 3, 1.0);
+        let far_left = self.tried(FAR, right, 0, 2.0);
+        self.tried(FAR, far_left, 4, 2.0)
+    }
+
+    fn in_motion(self, along: f32) -> f32
+        requires { (length self.rows.now ≡ 5240) × (self.x ≤ 511) }
+        ensures { (before cur after : Sampler) (from count : ℕ) (y : ℤ) → Motion self.entry.rows.now from count y before cur after → self.entry.x < count → result ≡ in_motion_of before cur after (pos (from + self.entry.x)) y along }
+    {
+        let earlier = self.at(EARLIER, 6);
+        let later = self.at(LATER, 6);
+        let c = self.at(ABOVE, 6);
+        let e = self.at(BELOW, 6);
+        let average = filter::mean(earlier, later);
+        let change = filter::gap(earlier, later);
+        let up = filter::wider(self.at(EARLIER_UP, 6), self.at(LATER_UP, 6), c);
+        let down = filter::wider(self.at(EARLIER_DOWN, 6), self.at(LATER_DOWN, 6), e);
+        let outside = filter::beyond(average, c, e);
+        let half = float::max(float::max(change, up), down) * 0.5;
+        filter::hold(along, average, float::max(half, outside))
+    }
 }
 
 // ---- a plane of the source
@@ -322,7 +330,8 @@ impl Source<'_> {
     {
         self.around(rows, ABOVE, y, 1, from, out.len());
         for x in 0..out.len() {
-            out[x] = float::clamp(near(rows, x, 2) * 0.5, 0.0, 1.0);
+            let column = Column { rows, x };
+            out[x] = float::clamp(column.near(2) * 0.5, 0.0, 1.0);
         }
     }
 }
@@ -369,8 +378,9 @@ impl Request<'_> {
     {
         self.motion(rows, y, from, out.len());
         for x in 0..out.len() {
-            let pick = edge::<ABOVE>(rows, x);
-            out[x] = in_motion(rows, x, pick.near * 0.5);
+            let column = Column { rows, x };
+            let pick = column.edge::<ABOVE>();
+            out[x] = column.in_motion(pick.near * 0.5);
         }
     }
 
@@ -383,8 +393,9 @@ impl Request<'_> {
         self.motion(rows, y, from, out.len());
         self.cur.around(rows, FAR_ABOVE, y, 3, from, out.len());
         for x in 0..out.len() {
-            let pick = edge::<FAR_ABOVE>(rows, x);
-            out[x] = in_motion(rows, x, filter::cubic(pick.near, pick.far));
+            let column = Column { rows, x };
+            let pick = column.edge::<FAR_ABOVE>();
+            out[x] = column.in_motion(filter::cubic(pick.near, pick.far));
         }
     }
 

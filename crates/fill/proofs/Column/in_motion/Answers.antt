@@ -4,11 +4,11 @@ use lib.IntN.{pos, ◌+ℤ◌, ◌-ℤ◌}
 use Rattle.filter.specs.Filter.{one}
 use Rattle.filter.proofs.Motion.{joined}
 use Rattle.fill.proofs.Slants.{here}
-use Rattle.fill.proofs.in_motion.Goals as goal
+use Rattle.fill.proofs.Column.in_motion.Goals as goal
 
 pub returns : goal.returns
 returns c = λ before cur after from count y m l.
-    let x = from + c.args.x in
+    let x = from + c.args.self.x in
     joined before cur after (pos x) y c.args.along refl refl
     (here before x y (c.at-earlier.ensures before from count y m.past.mid l))
     (here after x y (c.at-later.ensures after from count y m.coming.mid l))

@@ -5,12 +5,12 @@ use Rattle.filter.specs.Filter.{one, score_of}
 use Rattle.filter.specs.Held.{step}
 use Rattle.fill.proofs.Columns.{slanting}
 use Rattle.fill.proofs.Slants.{gap_across}
-use Rattle.fill.proofs.score.Goals as goal
+use Rattle.fill.proofs.Column.score.Goals as goal
 
 pub returns : goal.returns
 unfolding score_of
 returns c = λ v from count y h l.
-    let x = pos (from + c.args.x) in
+    let x = pos (from + c.args.self.x) in
     let j = step c.args.t in
     let s = slanting c.args.t c.requires.2 in
     let left = gap_across v x y (negsuc 0) j c.gap.ensures (c.at.ensures v from count _ h.up l) (c.at-2.ensures v from count _ h.down l) s.up_left s.down_left in

@@ -1,7 +1,7 @@
 use lib.Ieee.{of_bits, of_int}
 use Rattle.filter.specs.Filter.{best_of}
 use borrow.Author.Rules.{rules}
-use Rattle.fill.proofs.edge.Goals as goal
+use Rattle.fill.proofs.Column.edge.Goals as goal
 
 pub returns : goal.returns
 unfolding best_of
