@@ -1,3 +1,4 @@
 -- Laws that the proofs of this crate share.
 pub mod Parts
 pub mod Every
+pub mod Folded

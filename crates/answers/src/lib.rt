@@ -37,21 +37,26 @@ pub fn byte(answer: &[u8], k: u8) -> u8
     (number(answer, k) % 256) as u8
 }
 
-// Number k as a signed one: 2 n stands for n, and 2 n + 1 for -(n + 1).
+// What a number stands for, cut to so many bits above its lowest: 2 n stands for n, and 2 n + 1 for -(n + 1).
+fn unfolded(number: u64, bits: u32) -> i64
+    requires { bits ≤ 63 }
+    ensures { result ≡ signed_of bits number }
+{
+    let half = (number / 2 % (1 << bits)) as i64;
+    if number % 2 == 0 { half } else { -half - 1 }
+}
+
+// Number k as a signed one.
 pub fn long(answer: &[u8], k: u8) -> i64
     ensures { result ≡ signed_of 63 (number_of answer.now k) }
 {
-    let n = number(answer, k);
-    let half = (n / 2 % 9223372036854775808) as i64;
-    if n % 2 == 0 { half } else { -half - 1 }
+    unfolded(number(answer, k), 63)
 }
 
 pub fn signed(answer: &[u8], k: u8) -> i32
     ensures { result ≡ signed_of 31 (number_of answer.now k) }
 {
-    let n = number(answer, k);
-    let half = (n / 2 % 2147483648) as i32;
-    if n % 2 == 0 { half } else { -half - 1 }
+    unfolded(number(answer, k), 31) as i32
 }
 
 // Whether number k is what came.
@@ -61,6 +66,7 @@ pub fn same(answer: &[u8], k: u8, came: u64) -> bool
     came == number(answer, k)
 }
 
+// By type, since tools/calls names a comparison by the type of what came.
 pub fn same_byte(answer: &[u8], k: u8, came: u8) -> bool
     ensures { result ≡ eqb came (number_of answer.now k) }
 {

@@ -51,6 +51,7 @@ fn layout_named(code: u32) -> Layout
     }
 }
 
+// One function for each width, since other crates call both by name.
 pub fn at_most_65535(n: u32) -> u16
     ensures { result ≡ min n 65535 }
 {

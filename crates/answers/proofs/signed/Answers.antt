@@ -1,25 +1,19 @@
-use Prim.Native.Nat.{ℕ, ◌/◌, ◌%◌, ◌<◌, ◌^◌}
-use native.Mathlib.Nat.{mod-lt}
-use lib.Dec.{lit<}
-use borrow.Author.Tests.{eq-eqb, ne_eqb}
+use Prim.Native.Nat.{ℕ}
+use mathlib.Core.Path.{sym, ap, subst, ◌∙◌}
+use lib.IntN.{ℤ}
 use mir.Syntax.{w32}
+use mir.Val.{SFits, to_z, of_z}
+use mir.ValLaws.{to_z-of_z}
 use Rattle.answers.specs.Record.{signed_of}
-use Rattle.laws.proofs.Below.{plain, minus_fits, less_fits, less_read}
+use Rattle.answers.proofs.Folded.{small_signed, widened}
 use Rattle.answers.proofs.signed.Goals as goal
 
-cut : (n : ℕ) → n / 2 % 2147483648 < 2 ^ 31
-cut n = mod-lt (n / 2) (lit< tt)
+pub overflow_cast-result : goal.overflow_cast-result
+overflow_cast-result c =
+    subst (λ (z : ℤ). SFits w32 z) (sym (widened c.number.result c.unfolded.ensures)) (small_signed c.number.result)
 
-pub overflow_sub-result : goal.overflow_sub-result
-overflow_sub-result c = minus_fits w32 _ (cut c.number-n.result)
-
-pub overflow_sub-result-else-n-eq0 : goal.overflow_sub-result-else-n-eq0
-overflow_sub-result-else-n-eq0 c = less_fits w32 _ (cut c.number-n.result)
-
-pub returns-then-n-eq0 : goal.returns-then-n-eq0
-unfolding signed_of
-returns-then-n-eq0 c = rw (← c.number-n.ensures) (simp (eq-eqb _ _ c.if-n-eq0.true) (plain w32 _ (cut c.number-n.result)))
-
-pub returns-else-n-eq0 : goal.returns-else-n-eq0
-unfolding signed_of
-returns-else-n-eq0 c = rw (← c.number-n.ensures) (simp (ne_eqb _ _ c.if-n-eq0.false) (less_read w32 _ (cut c.number-n.result)))
+pub returns : goal.returns
+returns c =
+    ap (λ (z : ℤ). to_z w32 (of_z w32 z)) (widened c.number.result c.unfolded.ensures)
+    ∙ to_z-of_z w32 _ (small_signed c.number.result)
+    ∙ ap (λ (n : ℕ). signed_of 31 n) c.number.ensures
