@@ -257,6 +257,7 @@ fn copy_pairs<const STEP: usize>(to: &mut [u8], row: &[u8], width: usize, lane: 
     }
 }
 
+// A match and no closure: no plainer, since each kind has a loop of its own and the proof goes by kind.
 fn copy_row(kind: Kind, to: &mut [u8], row: &[u8], width: usize, lane: usize, right: u16)
     requires { RowRoom kind width to.old row.now × (lane ≤ 1) × (right ≤ 7) }
     ensures { to.new ≡ laid width (copy_in kind row.now lane right) }

@@ -125,6 +125,7 @@ fn readback_cut(n: ReadbackNumbers) -> Readback
 
 const STATE_BYTES: usize = 56;
 
+// A time is two numbers here and no option: the state's bytes hold what they held (`FoundAgain`).
 fn time_in(kind: u64, size: u64) -> Option<i64>
     ensures { result ≡ time_of kind size }
 {
@@ -225,6 +226,7 @@ fn readable(named: bool, field: Field, state: usize) -> Result<(), Refusal>
     Refusal::ShortInput.unless(STATE_BYTES <= state)
 }
 
+// 0 or 1, and below a time beside such a number: C's interface.
 fn picture_in(pair: Paired) -> u8
     ensures { result ≡ picture_number (times_of pair) }
 {
