@@ -1,5 +1,6 @@
 -- Nothing else would satisfy a contract of `entry`.
 use mathlib.Core.Path.{refl}
+use Rattle.refusal.proofs.Claims.{one_done}
 use Rattle.entry.proofs.word_at.Kinds as word_at_kinds
 use Rattle.entry.proofs.word_at.Reads as word_at
 use Rattle.entry.proofs.entry_of.Kinds as entry_of_kinds
@@ -32,5 +33,5 @@ measured_once κs a x y u v p q = (same p q, refl)
 
 pub cadences_once : OneAnswer 2 cadences_kinds.ps cadences_kinds.r cadences.Post
 cadences_once =
-    once 2 cadences_kinds.ps cadences_kinds.r cadences.Post (λ κs a x y s t p q. same p.0 q.0)
+    once 2 cadences_kinds.ps cadences_kinds.r cadences.Post (λ κs a x y s t p q. one_done x y (same p.0 q.0))
     (λ κs a x u v p q. same p.1 q.1 and refl)
