@@ -7,7 +7,7 @@ use lib.Dec.{leb}
 use lib.ListN.{length}
 use borrow.Author.Tests.{leb-true, le-leb}
 use Rattle.laws.specs.Refusal.{lowest, rising, when_done}
-use Rattle.laws.proofs.Refusal.{AllPass, all_pass, number_behind, lowest_behind, lowest_alike, lowest_halves, refused_already, done_equal}
+use Rattle.laws.proofs.Refusal.{AllPass, all_pass, number_behind, lowest_behind, lowest_alike, lowest_halves, refused_already}
 use Rattle.plane.specs.declared.Shape.{Shape}
 use Rattle.plane.specs.declared.Grid.{Grid}
 use Rattle.plane.specs.Plane.{good_shape, plane_bytes, grid_shape}
@@ -17,7 +17,6 @@ use Rattle.numbers.specs.Inner.{cut, cut_grid}
 use Rattle.numbers.proofs.Cut.{cut_same, cut_good}
 use Rattle.telecine.specs.declared.Detector.{Detector}
 use Rattle.telecine.specs.Detector.{kept_bytes, measured_tests, push_no}
-use Rattle.block.specs.declared.Counts.{Counts}
 use Rattle.block.specs.Answer.{counts_of, count_no, count_values}
 use Rattle.filmdesk.specs.Inner.{first_tests}
 use Rattle.filmdesk.specs.Film.{picture_named, busy_no, push_state_no}
@@ -56,16 +55,6 @@ module _ (plane store : List ℕ) (n : GridNumbers) (parity : ℕ) (g : Grid) (i
       (λ i. count_values plane (grid_shape (is-cut i)) store row)
       ∙ same_values plane store row (cut s) s (cut_good s) (cut_same s)
       ∙ (λ i. when_done (behind i) (counts_of plane s store row))
-
-  pub busy_given :
-      (row : ℕ) (counts : Counts) → 0 ≡ count_no (grid_shape g) (length plane) (length store) → counts ∷ [] ≡ count_values plane (grid_shape g) store row →
-      counts ≡ counts_of plane (picture_named n) store row
-  busy_given row counts done e = done_equal (counts_of plane (picture_named n) store row) (done ∙ busy_number) (e ∙ busy_values row)
-
-  pub total_given :
-      (row : ℕ) (counts : Counts) → 0 ≡ count_no (grid_shape g) (length plane) (length store) → counts ∷ [] ≡ count_values plane (grid_shape g) store row →
-      counts.total ≡ (counts_of plane (picture_named n) store row).total
-  total_given row counts done e = ap (λ (c : Counts). c.total) (busy_given row counts done e)
 
 -- ---- a picture is judged in two steps: behind the first, the number is the push's own
 module _ (parity : ℕ) (s : Shape) (state : ℕ) where

@@ -236,6 +236,7 @@ fn measured_named(
     Some(Measured { leading, trailing })
 }
 
+// Counts by the host's numbers. Numbers 3, 4 and 6.
 #[tactic(auto, using(crate::proofs::Calls::busy_number, crate::proofs::Calls::busy_values), unfolding(laws::specs::Refusal::lowest))]
 fn busy_in(plane: &[u8], grid: GridNumbers, store: &[u8], parity: u8) -> Result<Counts, Refusal>
     ensures result_value { no_of result ≡ busy_no grid (length plane.now) (length store.now) parity }
@@ -262,7 +263,7 @@ fn judge(parity: u8, picture: Grid, given: usize) -> Result<(), Refusal>
 }
 
 // Takes a picture: the detector is read from the state, and written back where nothing is refused.
-#[tactic(auto, using(laws::proofs::Refusal::done_equal, crate::proofs::Calls::push_refused, crate::proofs::Calls::push_shape, crate::proofs::Calls::judged_room, crate::proofs::Calls::push_number), unfolding(laws::specs::Refusal::lowest))]
+#[tactic(auto, using(crate::proofs::Calls::push_refused, crate::proofs::Calls::push_shape, crate::proofs::Calls::judged_room, crate::proofs::Calls::push_number), unfolding(laws::specs::Refusal::lowest))]
 fn push_picture(
     state: &mut [u8],
     parity: u8,
