@@ -37,7 +37,8 @@ const PHASE: usize = 95;
 
 // ---- a detector in the state's bytes
 
-// 0 is none, 1 top and every other number bottom, so that all bytes are some detector.
+// 0 is none, 1 top and every other number bottom, so that all bytes are some detector. No `From`: neither
+// type is of this crate.
 fn chosen_in(number: u64) -> Option<Parity>
     ensures { result ≡ chosen_named number }
 {
