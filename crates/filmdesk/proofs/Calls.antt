@@ -7,7 +7,8 @@ use lib.Dec.{leb}
 use lib.ListN.{length}
 use borrow.Author.Tests.{leb-true, le-leb}
 use Rattle.laws.specs.Refusal.{lowest, rising, when_done}
-use Rattle.laws.proofs.Refusal.{AllPass, all_pass, number_behind, lowest_behind, lowest_alike, lowest_halves, refused_already, done_equal}
+use Rattle.laws.proofs.Refusal.{AllPass, all_pass, number_behind, lowest_behind, lowest_alike, lowest_halves, refused_already}
+use Rattle.field.specs.declared.Parity.{Parity}
 use Rattle.plane.specs.declared.Shape.{Shape}
 use Rattle.plane.specs.declared.Grid.{Grid}
 use Rattle.plane.specs.Plane.{good_shape, plane_bytes, grid_shape}
@@ -16,8 +17,7 @@ use Rattle.numbers.specs.Numbers.{grid_named}
 use Rattle.numbers.specs.Inner.{cut, cut_grid}
 use Rattle.numbers.proofs.Cut.{cut_same, cut_good}
 use Rattle.telecine.specs.declared.Detector.{Detector}
-use Rattle.telecine.specs.Detector.{kept_bytes, measured_tests, push_no}
-use Rattle.block.specs.declared.Counts.{Counts}
+use Rattle.telecine.specs.Detector.{kept_bytes, measured_tests, push_no, push_cadence}
 use Rattle.block.specs.Answer.{counts_of, count_no, count_values}
 use Rattle.filmdesk.specs.Inner.{first_tests}
 use Rattle.filmdesk.specs.Film.{picture_named, busy_no, push_state_no}
@@ -56,16 +56,6 @@ module _ (plane store : List ℕ) (n : GridNumbers) (parity : ℕ) (g : Grid) (i
       (λ i. count_values plane (grid_shape (is-cut i)) store row)
       ∙ same_values plane store row (cut s) s (cut_good s) (cut_same s)
       ∙ (λ i. when_done (behind i) (counts_of plane s store row))
-
-  pub busy_given :
-      (row : ℕ) (counts : Counts) → 0 ≡ count_no (grid_shape g) (length plane) (length store) → counts ∷ [] ≡ count_values plane (grid_shape g) store row →
-      counts ≡ counts_of plane (picture_named n) store row
-  busy_given row counts done e = done_equal (counts_of plane (picture_named n) store row) (done ∙ busy_number) (e ∙ busy_values row)
-
-  pub total_given :
-      (row : ℕ) (counts : Counts) → 0 ≡ count_no (grid_shape g) (length plane) (length store) → counts ∷ [] ≡ count_values plane (grid_shape g) store row →
-      counts.total ≡ (counts_of plane (picture_named n) store row).total
-  total_given row counts done e = ap (λ (c : Counts). c.total) (busy_given row counts done e)
 
 -- ---- a picture is judged in two steps: behind the first, the number is the push's own
 module _ (parity : ℕ) (s : Shape) (state : ℕ) where
@@ -123,3 +113,13 @@ module _ (n : GridNumbers) (parity bytes room state : ℕ) (d : Detector) (g : G
             ∷ (6, leb 96 state && leb (plane_bytes s) bytes && leb (kept_bytes d.kept) room)
             ∷ (7, leb (s.height * s.width) room)
             ∷ measured_tests d)
+
+    -- by the detector and the parity as the code has them
+    pub read_number : (before : Detector) → before ≡ d → push_no before (grid_shape g) bytes room ≡ push_state_no n parity bytes room state d
+    read_number before e = ap (λ (d : Detector). push_no d (grid_shape g) bytes room) e ∙ push_number
+
+    pub read_values :
+        (before : Detector) → before ≡ d → (plane store : List ℕ) (first led : Parity) → first ≡ led →
+        when_done (push_no before (grid_shape g) bytes room) (push_cadence before store plane (grid_shape g) first)
+        ≡ when_done (push_state_no n parity bytes room state d) (push_cadence d store plane (picture_named n) led)
+    read_values before e plane store first led f = λ i. when_done (read_number before e i) (push_cadence (e i) store plane (push_shape i) (f i))

@@ -11,7 +11,7 @@ ghost use Rattle.laws.specs.Rows.{over};
 ghost use Rattle.field.specs.Field.{first_row_of, parity_named};
 ghost use Rattle.plane.specs.Plane.{grid_shape};
 ghost use Rattle.block.specs.Answer.{counts_of};
-ghost use Rattle.telecine.specs.Detector.{nothing_kept, reset_of, measured_no, measured_detector, measured_cadence};
+ghost use Rattle.telecine.specs.Detector.{nothing_kept, reset_of, measured_no, measured_detector, measured_cadence, push_cadence};
 ghost use Rattle.entry.specs.Entry.{cadences_no, cadences_of};
 ghost use Rattle.filmdesk.specs.Kept.{detector_in, detector_numbers, keeping, chosen_number, chosen_named};
 ghost use Rattle.filmdesk.specs.Inner.{first_tests, detector_with};
@@ -37,7 +37,8 @@ const PHASE: usize = 95;
 
 // ---- a detector in the state's bytes
 
-// 0 is none, 1 top and every other number bottom, so that all bytes are some detector.
+// 0 is none, 1 top and every other number bottom, so that all bytes are some detector. No `From`: neither
+// type is of this crate.
 fn chosen_in(number: u64) -> Option<Parity>
     ensures { result ≡ chosen_named number }
 {
@@ -236,6 +237,23 @@ fn measured_named(
     Some(Measured { leading, trailing })
 }
 
+// Counts by the host's numbers. Numbers 3, 4 and 6.
+#[tactic(auto, using(crate::proofs::Calls::busy_number, crate::proofs::Calls::busy_values), unfolding(laws::specs::Refusal::lowest))]
+fn busy_in(plane: &[u8], grid: GridNumbers, store: &[u8], parity: u8) -> Result<Counts, Refusal>
+    ensures result_value { no_of result ≡ busy_no grid (length plane.now) (length store.now) parity }
+    ensures result_value_2 { values_of result ≡ when_done (busy_no grid (length plane.now) (length store.now) parity) (counts_of plane.now (picture_named grid) store.now (first_row_of (parity_named parity))) }
+{
+    if 1 < parity {
+        return Err(Refusal::Outside);
+    }
+    block::count(
+        plane,
+        numbers::grid_named(grid),
+        store,
+        Parity::named(u64::from(parity)),
+    )
+}
+
 // What refuses a picture before the detector in the state is looked at.
 fn judge(parity: u8, picture: Grid, given: usize) -> Result<(), Refusal>
     ensures { no_of result ≡ lowest (first_tests parity (grid_shape picture) given) }
@@ -245,13 +263,35 @@ fn judge(parity: u8, picture: Grid, given: usize) -> Result<(), Refusal>
     Refusal::ShortInput.unless(STATE_BYTES <= given)
 }
 
+// Takes a picture: the detector is read from the state, and written back where nothing is refused.
+#[tactic(auto, using(crate::proofs::Calls::push_refused, crate::proofs::Calls::push_shape, crate::proofs::Calls::judged_room, crate::proofs::Calls::push_number), unfolding(laws::specs::Refusal::lowest))]
+fn push_picture(
+    state: &mut [u8],
+    parity: u8,
+    plane: &[u8],
+    grid: GridNumbers,
+    store: &mut [u8],
+) -> Result<Cadence, Refusal>
+    ensures result_value { no_of result ≡ push_state_no grid parity (length plane.now) (length store.old) (length state.old) (detector_in state.old) }
+    ensures result_value_2 { values_of result ≡ when_done (push_state_no grid parity (length plane.now) (length store.old) (length state.old) (detector_in state.old)) (push_cadence (detector_in state.old) store.old plane.now (picture_named grid) (parity_named parity)) }
+    ensures state_after { state.new ≡ pushed_state (no_of result) state.old store.old plane.now grid parity }
+    ensures store_after { store.new ≡ pushed_store (no_of result) state.old store.old plane.now grid }
+{
+    let picture = numbers::grid_named(grid);
+    judge(parity, picture, state.len())?;
+    let detector = detector_in(state);
+    let pushed = detector.push(plane, picture, Parity::named(u64::from(parity)), store);
+    let seen = pushed.answer?;
+    keep(state, &pushed.detector);
+    Ok(seen)
+}
+
 // ---- the calls
 
 // Busy blocks and all blocks of a field, 0 top or 1 bottom, against the same field of the frame that
 // `store` keeps as 8-bit samples, row by row. Codes are not shifted, and one above 2^depth - 1 counts as
 // that: a biplanar luma deeper than 8 bits, whose codes stand in the high bits, goes through readback
 // first. Numbers 3, 4 and 6.
-#[tactic(auto, using(crate::proofs::Calls::busy_number, crate::proofs::Calls::busy_given, crate::proofs::Calls::total_given), unfolding(laws::specs::Refusal::lowest))]
 #[unsafe(no_mangle)]
 pub extern "C" fn desk_busy(
     plane: &[u8],
@@ -265,15 +305,7 @@ pub extern "C" fn desk_busy(
     ensures busy_after { busy.new ≡ written result (counts_of plane.now (picture_named grid) store.now (first_row_of (parity_named parity))).busy busy.old }
     ensures total_after { total.new ≡ written result (counts_of plane.now (picture_named grid) store.now (first_row_of (parity_named parity))).total total.old }
 {
-    if 1 < parity {
-        return Refusal::Outside.number();
-    }
-    match block::count(
-        plane,
-        numbers::grid_named(grid),
-        store,
-        Parity::named(u64::from(parity)),
-    ) {
+    match busy_in(plane, grid, store, parity) {
         Ok(counts) => {
             *busy = counts.busy;
             *total = counts.total;
@@ -395,7 +427,6 @@ pub extern "C" fn desk_detector_push_measured(
 // Takes a picture led by the field `parity`, compares it with the frame that the store keeps, and keeps
 // it there. Codes are not shifted, and one above 2^depth - 1 counts as that: a biplanar luma deeper than
 // 8 bits, whose codes stand in the high bits, goes through readback first. Numbers 3, 4, 6, 7 and 9.
-#[tactic(auto, using(laws::proofs::Refusal::done_equal, crate::proofs::Calls::push_refused, crate::proofs::Calls::push_shape, crate::proofs::Calls::judged_room, crate::proofs::Calls::push_number), unfolding(laws::specs::Refusal::lowest))]
 #[unsafe(no_mangle)]
 pub extern "C" fn desk_detector_push(
     state: &mut [u8],
@@ -410,15 +441,8 @@ pub extern "C" fn desk_detector_push(
     ensures store_after { store.new ≡ pushed_store result state.old store.old plane.now grid }
     ensures cadence_after { cadence.new ≡ pushed_byte result state.old store.old plane.now grid parity cadence.old }
 {
-    let picture = numbers::grid_named(grid);
-    if let Err(refusal) = judge(parity, picture, state.len()) {
-        return refusal.number();
-    }
-    let detector = detector_in(state);
-    let pushed = detector.push(plane, picture, Parity::named(u64::from(parity)), store);
-    match pushed.answer {
+    match push_picture(state, parity, plane, grid, store) {
         Ok(seen) => {
-            keep(state, &pushed.detector);
             *cadence = seen.number();
             0
         }
