@@ -162,7 +162,7 @@ totals_told before w a x b y c n =
 -- ---- the claim
 pub tells_what_was_said : TellsWhatWasSaid
 tells_what_was_said before = record {
-  fault = λ why h. fault_told before (number_of why) h;
+  fault = λ n h. fault_told before n h;
   frame = λ n c locked. frame_told before (decimal_of n) c locked;
   totals = λ t. totals_told before whole_first (decimal_of t.whole) drop_word (decimal_of t.drop) spanning_word (decimal_of t.spanning) t.none;
 }

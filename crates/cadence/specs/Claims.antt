@@ -11,7 +11,7 @@ use Rattle.cadence.specs.Told.{refusal_in}
 -- Whatever stands before it in a page: where the last line is a fault's, its number is found, and where it is a frame's or the totals', none is. A
 -- file's faults have one digit (`FaultsKnown` of `reel`).
 pub record Tells (before : List ℕ) : Type 0 where
-  pub fault : (why : Refusal) → number_of why < 10 → refusal_in (before ++ text_of (Fault why)) ≡ number_of why
+  pub fault : (n : ℕ) → n < 10 → refusal_in (before ++ text_of (Fault n)) ≡ n
   pub frame : (n : ℕ) (c : Cadence) (locked : Bool) → refusal_in (before ++ text_of (Frame n c locked)) ≡ 0
   pub totals : (t : Tally) → refusal_in (before ++ text_of (Totals t)) ≡ 0
 

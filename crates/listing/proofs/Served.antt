@@ -10,7 +10,6 @@ use lib.Dec.{eqb, leb}
 use lib.ListN.{length}
 use borrow.Author.Tests.{eqb-true, eqb-false, ne_eqb, leb-true}
 use Rattle.laws.specs.Refusal.{lowest, rising}
-use Rattle.refusal.specs.declared.Refusal.TheVariants as refusal
 use Rattle.laws.proofs.Refusal.{all_pass}
 use Rattle.pages.specs.Claims.{Serves}
 use Rattle.pulldown.specs.Lock.{locked_of}
@@ -23,7 +22,7 @@ use Rattle.reel.specs.declared.Stage.{Stage}
 use Rattle.reel.specs.declared.Stage.TheVariants.{ShapeCount, ShapeNumbers, EntryCount, Entries, Pictures, Done}
 use Rattle.reel.specs.declared.Reel.{Reel}
 use Rattle.reel.specs.declared.Next.{Next}
-use Rattle.reel.specs.Reel.{entry_tests, picture_bytes, picture_count_tests, shape_tests, refused}
+use Rattle.reel.specs.Reel.{entry_tests, picture_bytes, picture_count_tests, shape_tests}
 use Rattle.reel.specs.Machine.{reel_of, want_at, want_of, tallied_in, state_of, picture_in, close, whole_of, judged_of, on_to, pushed_of, shape_count_of, shape_numbers_of, entry_count_of, entry_unit_of, picture_count_of, picture_unit_of, end_of, next_at, next_of, store_at, store_after}
 use Rattle.reel.proofs.Fine.{Fine, given_fine, given_if, some_picture}
 use Rattle.listing.specs.Listing.{text_of}
@@ -106,10 +105,10 @@ closed : (r : Reel) (said : Said) → GoodReel r → GoodNext (close r said)
 closed r said g = record { fine = g.fine; at = tt }
 
 whole_good : (r : Reel) (k : ℕ) (unit : List ℕ) (more : Next) → GoodReel r → GoodNext more → GoodNext (whole_of r k unit more)
-whole_good r k unit more g h = chosen (leb k (length unit)) more (close r (Fault refusal.ShortInput)) (λ e. h) (λ e. closed r Quiet g)
+whole_good r k unit more g h = chosen (leb k (length unit)) more (close r (Fault 6)) (λ e. h) (λ e. closed r Quiet g)
 
 judged_good : (r : Reel) (tests : List (ℕ × Bool)) (more : Next) → GoodReel r → (lowest tests ≡ 0 → GoodNext more) → GoodNext (judged_of r tests more)
-judged_good r tests more g h = chosen (eqb (lowest tests) 0) more (close r (Fault (refused (lowest tests)))) (λ e. h (eqb-true (lowest tests) 0 e)) (λ e. closed r Quiet g)
+judged_good r tests more g h = chosen (eqb (lowest tests) 0) more (close r (Fault (lowest tests))) (λ e. h (eqb-true (lowest tests) 0 e)) (λ e. closed r Quiet g)
 
 first_on : (r : Reel) (b : Bool) → GoodReel r → GoodNext (on_to r (cond b EntryCount ShapeNumbers))
 first_on r true g = record { fine = g.fine; at = tt }
@@ -129,7 +128,7 @@ pushed_good : (r : Reel) (stage : Stage) (store : List ℕ) (u : Push) → GoodR
 unfolding pushed_of
 pushed_good r stage store u g a = frames (eqb (number_in (state_of r store) u) 0)
   where
-    frames : (b : Bool) → GoodNext (cond b (record { reel = reel_of stage r.pictured (next (state_of r store) (push u)).detector (tallied_in (cadence_in (state_of r store) u) r.tally); said = Frame r.detector.lock.course.taken (cadence_in (state_of r store) u) (locked_of (next (state_of r store) (push u)).detector.lock) }) (close r (Fault (refused (number_in (state_of r store) u)))))
+    frames : (b : Bool) → GoodNext (cond b (record { reel = reel_of stage r.pictured (next (state_of r store) (push u)).detector (tallied_in (cadence_in (state_of r store) u) r.tally); said = Frame r.detector.lock.course.taken (cadence_in (state_of r store) u) (locked_of (next (state_of r store) (push u)).detector.lock) }) (close r (Fault (number_in (state_of r store) u))))
     frames true = record { fine = g.fine; at = a }
     frames false = closed r Quiet g
 
@@ -156,7 +155,7 @@ picture_good r n store unit g a =
 end_good : (r : Reel) (unit : List ℕ) → GoodReel r → GoodNext (end_of r unit)
 unfolding end_of
 end_good r unit g =
-    chosen (eqb (length unit) 0) (close r (Totals r.tally)) (close r (Fault refusal.Outside)) (λ e. closed r Quiet g) (λ e. closed r Quiet g)
+    chosen (eqb (length unit) 0) (close r (Totals r.tally)) (close r (Fault 3)) (λ e. closed r Quiet g) (λ e. closed r Quiet g)
 
 good_at_lem : (stage : Stage) (r : Reel) (store unit : List ℕ) → GoodReel r → good_at stage r.pictured → GoodNext (next_at stage r store unit)
 unfolding shape_count_of shape_numbers_of entry_count_of

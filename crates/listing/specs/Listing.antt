@@ -1,6 +1,5 @@
 -- The text of what a reel file says, as bytes (docs/RULES.md, "Reel file and listing").
 use Rattle.std.specs.Prelude.{ℕ, zero, suc, ◌+◌, ◌/◌, ◌%◌, Bool, true, false, cond, List, [], ◌∷◌, ◌++◌, leb, ltb, length}
-use Rattle.refusal.specs.Refusal.{number_of}
 use Rattle.field.specs.declared.Cadence.{Cadence}
 use Rattle.field.specs.declared.Cadence.TheVariants.{None, Whole, Drop, Spanning}
 use Rattle.reel.specs.declared.Said.{Said}
@@ -61,7 +60,7 @@ text_of (Frame n c locked) = decimal_of n ++ (cadence_word c ++ lock_end locked)
 text_of (Totals t) =
     whole_first ++ (decimal_of t.whole ++ (drop_word ++ (decimal_of t.drop ++ (spanning_word ++ (decimal_of t.spanning
     ++ (none_word ++ (decimal_of t.none ++ line_end)))))))
-text_of (Fault refused) = refused_first ++ (decimal_of (number_of refused) ++ line_end)
+text_of (Fault n) = refused_first ++ (decimal_of n ++ line_end)
 
 abbrev pub text_of_all : List Said → List ℕ
 text_of_all [] = []

@@ -12,7 +12,6 @@ ghost use Rattle.pages.specs.Run.{stepped_by};
 use field::Cadence;
 use pages::{Ask, Held};
 use reel::{Reel, Said, Tally};
-use refusal::Refusal;
 
 // No line is longer.
 const LONGEST_LINE: usize = 128;
@@ -74,11 +73,11 @@ fn frame_line(out: &mut [u8], at: usize, n: u64, cadence: Cadence, locked: bool)
     add(out, word, lock_end(locked))
 }
 
-fn fault_line(out: &mut [u8], at: usize, refusal: Refusal) -> usize
+fn fault_line(out: &mut [u8], at: usize, no: u8) -> usize
     requires { at + 128 ≤ length out.old }
-    ensures { Wrote out.old at out.new result (text_of (Said.Fault refusal)) × (result ≤ at + 128) }
+    ensures { Wrote out.old at out.new result (text_of (Said.Fault no)) × (result ≤ at + 128) }
 {
-    let number = add_part(out, at, b"refused ", u64::from(refusal.number()));
+    let number = add_part(out, at, b"refused ", u64::from(no));
     add(out, number, b"\n")
 }
 
@@ -102,7 +101,7 @@ fn line(out: &mut [u8], at: usize, said: Said) -> usize
         Said::Quiet => at,
         Said::Frame(n, cadence, locked) => frame_line(out, at, n, cadence, locked),
         Said::Totals(tally) => totals_line(out, at, tally),
-        Said::Fault(refusal) => fault_line(out, at, refusal),
+        Said::Fault(no) => fault_line(out, at, no),
     }
 }
 

@@ -23,7 +23,7 @@ use Rattle.reel.specs.declared.Said.TheVariants.{Frame}
 use Rattle.reel.specs.declared.Stage.{Stage}
 use Rattle.reel.specs.declared.Stage.TheVariants.{ShapeNumbers, EntryCount, Entries, Pictures}
 use Rattle.reel.specs.declared.Reel.{Reel}
-use Rattle.reel.specs.Reel.{shape_count_tests, shape_tests, pictured_in, shown, entry_tests, picture_bytes, picture_count_tests, no_frames, tallied, refused}
+use Rattle.reel.specs.Reel.{shape_count_tests, shape_tests, pictured_in, shown, entry_tests, picture_bytes, picture_count_tests, no_frames, tallied}
 use Rattle.reel.specs.Reel.{whole, judged, frame, pictures, picture_section, entries, fresh_state, entry_section, shape_section, said_of}
 use Rattle.reel.specs.Machine.{reel_of, start_of, want_of, state_of, tallied_in, pushed_of, shape_count_of, shape_numbers_of, entry_count_of, entry_unit_of}
 use Rattle.reel.specs.Machine.{picture_count_of, picture_unit_of, picture_store, next_of, store_after, Ends}
@@ -66,7 +66,7 @@ module _ (r : Reel) (stage : Stage) (store bytes : List ℕ) (u : Push) (more : 
       → After (length bytes + 2) (pushed_of r stage store u) after.store bytes (frame before r.tally u more)
   unfolding pushed_of
   frame_says sound rest =
-      choose (eqb (number_in before u) 0) (λ e. taken sound rest (eqb-true _ _ e)) (closed r (refused (number_in before u)) after.store bytes)
+      choose (eqb (number_in before u) 0) (λ e. taken sound rest (eqb-true _ _ e)) (closed r (number_in before u) after.store bytes)
 
 -- ---- pictures
 pictures_say : (n : ℕ) (p : Option Pictured) (state : State) (t : Tally) (bytes : List ℕ) → Sound state.detector t → (0 < n → 1 ≤ picture_bytes p)
@@ -94,7 +94,7 @@ picture_section_says p state t bytes sound fine =
     (λ u rest. judged (picture_count_tests p (word_at u 0)) (pictures (word_at u 0) p state t rest))
     (choose (eqb (lowest (picture_count_tests p n)) 0)
     (λ e. quiet (pictures_say n p state t (drop 2 bytes) sound (some_picture p n fine (eqb-true _ _ e))))
-    (closed r (refused (lowest (picture_count_tests p n))) state.store (drop 2 bytes))))
+    (closed r (lowest (picture_count_tests p n)) state.store (drop 2 bytes))))
 
 -- ---- entries
 entries_say : (n : ℕ) (p : Option Pictured) (state : State) (t : Tally) (bytes : List ℕ) → Sound state.detector t → Fine p
@@ -111,7 +111,7 @@ entries_say (suc n) p state t bytes sound fine =
     (λ e.
     frame_says r (Entries n) state.store (drop 12 bytes) (push_in (entry_of u)) (λ after v. entries n p after v (drop 12 bytes)) sound
     (λ v s. entries_say n p _ v (drop 12 bytes) s fine))
-    (closed r (refused (lowest (entry_tests u))) state.store (drop 12 bytes))))
+    (closed r (lowest (entry_tests u)) state.store (drop 12 bytes))))
 
 entry_section_says : (p : Option Pictured) (bytes : List ℕ) → Fine p
     → Ends (reel_of EntryCount p fresh_detector no_frames) (replicate 16384 0) bytes (entry_section p bytes)
@@ -138,7 +138,7 @@ numbers_say bytes =
     (λ u rest. judged (shape_tests u) (entry_section (Some (pictured_in u)) rest))
     (choose (eqb (lowest (shape_tests u)) 0)
     (λ e. quiet (entry_section_says (Some (pictured_in u)) (drop 10 bytes) (given_fine u (eqb-true _ _ e))))
-    (closed r (refused (lowest (shape_tests u))) (replicate 16384 0) (drop 10 bytes))))
+    (closed r (lowest (shape_tests u)) (replicate 16384 0) (drop 10 bytes))))
 
 by_count : (none : Bool) (bytes : List ℕ)
     → Ends (reel_of (cond none EntryCount ShapeNumbers) None fresh_detector no_frames) (replicate 16384 0) bytes
@@ -161,7 +161,7 @@ reads_every_file bytes =
     (λ u rest. judged (shape_count_tests (word_at u 0)) (shape_section (word_at u 0) rest))
     (choose (eqb (lowest (shape_count_tests n)) 0)
     (λ e. quiet (shape_section_says n (drop 2 bytes)))
-    (closed start_of (refused (lowest (shape_count_tests n))) (replicate 16384 0) (drop 2 bytes))))
+    (closed start_of (lowest (shape_count_tests n)) (replicate 16384 0) (drop 2 bytes))))
 
 pub faults_known : FaultsKnown
 faults_known = known.faults_known

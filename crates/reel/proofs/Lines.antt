@@ -12,8 +12,6 @@ use lib.ListN.{length, take, drop, get_or, replicate}
 use lib.Seq.{get_or-take, drop-drop}
 use borrow.Author.Tests.{eqb-true, lt-ltb, le-ltb}
 use Rattle.laws.specs.Refusal.{lowest}
-use Rattle.refusal.specs.declared.Refusal.{Refusal}
-use Rattle.refusal.specs.declared.Refusal.TheVariants as refusal
 use Rattle.plane.specs.Plane.{grid_shape}
 use Rattle.pulldown.specs.Lock.{locked_of}
 use Rattle.telecine.specs.History.{State, Push, picture, push, number_in, cadence_in, next, after, frames_of, taken}
@@ -25,7 +23,7 @@ use Rattle.reel.specs.declared.Pictured.{Pictured}
 use Rattle.reel.specs.declared.Tally.{Tally}
 use Rattle.reel.specs.declared.Said.{Said}
 use Rattle.reel.specs.declared.Said.TheVariants.{Quiet, Frame, Totals, Fault}
-use Rattle.reel.specs.Reel.{shape_in, pictured_in, shown, shape_count_tests, shape_tests, entry_tests, picture_bytes, picture_count_tests, no_frames, refused}
+use Rattle.reel.specs.Reel.{shape_in, pictured_in, shown, shape_count_tests, shape_tests, entry_tests, picture_bytes, picture_count_tests, no_frames}
 use Rattle.reel.specs.Reel.{whole, judged, frame, pictures, picture_section, entries, fresh_state, entry_section, shape_section, said_of}
 use Rattle.reel.specs.Frames.{entry_count, entries_in, pictures_in, frame_in, frame_at, frames_before}
 use Rattle.reel.specs.Claims.{Demanded, LinesDemanded}
@@ -54,16 +52,16 @@ module _ (frames : ℕ → Push) where
   pick k true p q = p refl
   pick k false p q = q
 
-  fault : (k : ℕ) (why : Refusal) → From k (Fault why ∷ [])
+  fault : (k n : ℕ) → From k (Fault n ∷ [])
   fault k why = record { lines = (tt, tt) }
 
   whole_from : (k n : ℕ) (more : List ℕ → List ℕ → List Said) (bytes : List ℕ) → From k (more (take n bytes) (drop n bytes))
       → From k (whole n more bytes)
   unfolding whole
-  whole_from k n more bytes h = pick k (leb n (length bytes)) (λ _. h) (fault k refusal.ShortInput)
+  whole_from k n more bytes h = pick k (leb n (length bytes)) (λ _. h) (fault k 6)
 
   judged_from : (k : ℕ) (tests : List (ℕ × Bool)) {more : List Said} → From k more → From k (judged tests more)
-  judged_from k tests h = pick k (eqb (lowest tests) 0) (λ _. h) (fault k (refused (lowest tests)))
+  judged_from k tests h = pick k (eqb (lowest tests) 0) (λ _. h) (fault k (lowest tests))
 
   -- ---- the state that frame k is pushed to
   frames_before_lem : (k : ℕ) → frames_of (frames_before frames k) ≡ k
@@ -115,7 +113,7 @@ module _ (frames : ℕ → Push) where
           (λ e.
           let done = eqb-true _ _ e in
           record { lines = (demanded k all done, (rest _ (record { is = refl; all = none-refused k all done })).lines) })
-          (fault k (refused (number_in (reached k) (frames k))))
+          (fault k (number_in (reached k) (frames k)))
 
       frame-from : (state : State) (u : Push) → u ≡ frames k → Come state k
           → ((v : Tally) → Come (next state (push u)) (suc k) → From (suc k) (more (next state (push u)) v))
@@ -165,7 +163,7 @@ module _ (p : Option Pictured) (behind : List ℕ) where
   pictures_from : (n k j : ℕ) (state : State) (t : Tally) (bytes : List ℕ) → k ≡ count + j → bytes ≡ drop (picture_bytes p * j) (pictures_in behind)
       → Come frames store state k → From frames k (pictures n p state t bytes)
   unfolding pictures
-  pictures_from zero k j state t bytes k-is bytes-is come = pick frames k (eqb (length bytes) 0) (λ _. record { lines = (tt, tt) }) (fault frames k refusal.Outside)
+  pictures_from zero k j state t bytes k-is bytes-is come = pick frames k (eqb (length bytes) 0) (λ _. record { lines = (tt, tt) }) (fault frames k 3)
   pictures_from (suc n) k j state t bytes k-is bytes-is come =
       let size = picture_bytes p in
       whole_from frames k size (λ u rest. frame state t (picture u (grid_shape (shown p).shape) (shown p).first) (λ after v. pictures n p after v rest)) bytes

@@ -31,23 +31,11 @@ use Rattle.reel.specs.declared.Stage.{Stage}
 use Rattle.reel.specs.declared.Stage.TheVariants.{Entries, Pictures}
 use Rattle.reel.specs.declared.Reel.{Reel}
 use Rattle.reel.specs.declared.Next.{Next}
-use Rattle.reel.specs.Reel.{picture_bytes, refused}
+use Rattle.reel.specs.Reel.{picture_bytes}
 use Rattle.reel.specs.Machine.{reel_of, close, tallied_in, state_of, pushed_of, entry_unit_of, picture_unit_of, picture_store}
 use Rattle.reel.specs.Inner.{answered_as, pushed_as}
 
 -- ---- a refusal and its number
-
-pub refused_number : (why : Refusal) → refused (number_of why) ≡ why
-refused_number refusal.PlaneCount = refl
-refused_number refusal.OnlyLuma = refl
-refused_number refusal.Outside = refl
-refused_number refusal.Shape = refl
-refused_number refusal.Differ = refl
-refused_number refusal.ShortInput = refl
-refused_number refusal.ShortOutput = refl
-refused_number refusal.Colour = refl
-refused_number refusal.TooManyFrames = refl
-refused_number refusal.TooFarAhead = refl
 
 some_number : (why : Refusal) → eqb (number_of why) 0 ≡ false
 some_number refusal.PlaneCount = refl
@@ -63,13 +51,13 @@ some_number refusal.TooFarAhead = refl
 
 -- what a number leads to: on where it is 0, and else the file is closed
 abbrev pub decided : Reel → ℕ → Next → Next
-decided r n more = cond (eqb n 0) more (close r (Fault (refused n)))
+decided r n more = cond (eqb n 0) more (close r (Fault n))
 
 pub goes_on : (r : Reel) (more : Next) {n : ℕ} → 0 ≡ n → more ≡ decided r n more
 goes_on r more e = rw (← e)
 
-pub closes : (r : Reel) (more : Next) (why : Refusal) {n : ℕ} → number_of why ≡ n → close r (Fault why) ≡ decided r n more
-closes r more why e = rw (← e, some_number why, refused_number why)
+pub closes : (r : Reel) (more : Next) (why : Refusal) {n : ℕ} → number_of why ≡ n → close r (Fault (number_of why)) ≡ decided r n more
+closes r more why e = rw (← e, some_number why)
 
 module _ (r : Reel) (stage : Stage) (after : Detector) (n : ℕ) (cadence : Cadence) where
   abbrev frame : Next
@@ -113,7 +101,7 @@ picture_kept r store u new shown given long e = e ∙ rw (le-leb _ _ long, given
 
 -- one that was not
 pub short_closes : (r : Reel) (n : ℕ) (store u : List ℕ) → length u < picture_bytes r.pictured
-    → close r (Fault refusal.ShortInput) ≡ picture_unit_of r n store u
+    → close r (Fault 6) ≡ picture_unit_of r n store u
 unfolding picture_unit_of
 short_closes r n store u short = rw (lt-leb _ _ short)
 
@@ -123,7 +111,7 @@ short_keeps r store u short = rw (lt-leb _ _ short)
 
 -- and one that came though no shape is given
 pub shapeless_closes : (r : Reel) (n : ℕ) (store u : List ℕ) → r.pictured ≡ None
-    → close r (Fault refusal.Shape) ≡ picture_unit_of r n store u
+    → close r (Fault 4) ≡ picture_unit_of r n store u
 unfolding picture_unit_of pushed_of lowest good_shape
 shapeless_closes r n store u none = rw (none, le-leb 0 (length u) (omega arith))
 

@@ -9,8 +9,6 @@ use mathlib.Core.List.{List, [], ◌∷◌}
 use lib.Dec.{eqb, leb}
 use lib.ListN.{length, take, drop, length-take, length-drop}
 use borrow.Author.Tests.{le-leb, lt-leb, leb-true, leb-false, ne_eqb}
-use Rattle.refusal.specs.declared.Refusal.{Refusal}
-use Rattle.refusal.specs.declared.Refusal.TheVariants as refusal
 use Rattle.reel.specs.declared.Tally.{Tally}
 use Rattle.reel.specs.declared.Said.{Said}
 use Rattle.reel.specs.declared.Said.TheVariants.{Quiet, Totals, Fault}
@@ -50,7 +48,7 @@ pub by_unit : {r : Reel} {store bytes : List ℕ} {all : List Said} (k : ℕ) {n
     → Ends r store bytes all
 by_unit {r} {store} {bytes} {all} k p q s a = by_turn (rw (p, q, s) a)
 
-pub closed : {n : ℕ} (r : Reel) (why : Refusal) (store bytes : List ℕ) → After n (close r (Fault why)) store bytes (Fault why ∷ [])
+pub closed : {n : ℕ} (r : Reel) (number : ℕ) (store bytes : List ℕ) → After n (close r (Fault number)) store bytes (Fault number ∷ [])
 closed r why store bytes = record {
   later = [];
   goes_on = record { turns = 0; ends = refl; says = refl; few = omega arith };
@@ -95,9 +93,9 @@ fewer k bytes h g = simp length-drop (omega arith)
 module _ (k : ℕ) (r : Reel) (store kept bytes : List ℕ) (some : 1 ≤ k) where
   branch : (b : Bool) {next : Next} {all : List Said} → leb k (length bytes) ≡ b
       → After (length (drop k bytes) + 2) next kept (drop k bytes) all
-      → After (length bytes + 1) (cond b next (close r (Fault refusal.ShortInput))) (cond b kept store) (drop k bytes) (cond b all (Fault refusal.ShortInput ∷ []))
+      → After (length bytes + 1) (cond b next (close r (Fault 6))) (cond b kept store) (drop k bytes) (cond b all (Fault 6 ∷ []))
   branch true e a = more_turns (fewer k bytes some (leb-true _ _ e)) a
-  branch false e a = closed r refusal.ShortInput store (drop k bytes)
+  branch false e a = closed r 6 store (drop k bytes)
 
   -- one that changes the store
   pub stored_unit : (more : List ℕ → List ℕ → List Said) {next : Next}
@@ -120,4 +118,4 @@ unit k r store bytes some more a = rw (same_store (leb k (length (take k bytes))
 pub ended : (r : Reel) (store bytes : List ℕ) → After (length bytes + 1) (end_of r (take 1 bytes)) store (drop 1 bytes) (ending r.tally bytes)
 unfolding end_of
 ended r store [] = totalled r r.tally store []
-ended r store (b ∷ bytes) = rw (some_left (length bytes)) (closed r refusal.Outside store (drop 1 (b ∷ bytes)))
+ended r store (b ∷ bytes) = rw (some_left (length bytes)) (closed r 3 store (drop 1 (b ∷ bytes)))

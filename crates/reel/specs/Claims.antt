@@ -1,6 +1,5 @@
 -- What is claimed of the machine and of the definition. proofs/Claims.antt proves each claim under its name in small letters.
 use Rattle.std.specs.Prelude.{ℕ, ◌<◌, ◌≡◌, ◌↔◌, Bool, true, ◌&&◌, ◌||◌, List, [], ◌∷◌, eqb, get_or, replicate}
-use Rattle.refusal.specs.Refusal.{number_of}
 use Rattle.field.specs.declared.Cadence.{Cadence}
 use Rattle.pulldown.specs.Runs.{Meets}
 use Rattle.pulldown.specs.Claims.{Third}
@@ -24,7 +23,7 @@ abbrev pub known : Said → Bool
 known Quiet = true
 known (Frame n c locked) = true
 known (Totals t) = true
-known (Fault refused) = eqb (number_of refused) 3 || eqb (number_of refused) 4 || eqb (number_of refused) 6 || eqb (number_of refused) 7
+known (Fault n) = eqb n 3 || eqb n 4 || eqb n 6 || eqb n 7
 
 abbrev pub all_known : List Said → Bool
 all_known [] = true

@@ -8,6 +8,7 @@ use Rattle.pulldown.specs.Lock.{locked_of}
 use Rattle.telecine.specs.declared.Detector.{Detector}
 use Rattle.telecine.specs.declared.Pushed.{Pushed}
 use Rattle.entry.specs.Entry.{word_at}
+use Rattle.refusal.specs.Refusal.{number_of}
 use Rattle.reel.specs.declared.Pictured.{Pictured}
 use Rattle.reel.specs.declared.Said.TheVariants.{Frame, Fault}
 use Rattle.reel.specs.declared.Stage.{Stage}
@@ -23,7 +24,7 @@ cut_pictured u = record { shape = cut_grid (shape_in u); first = parity_named (w
 -- what a unit leads to by a function's answer: a refusal closes the file
 abbrev pub closed : Reel → Result Next Refusal → Next
 closed r (Ok next) = next
-closed r (Err refused) = close r (Fault refused)
+closed r (Err refused) = close r (Fault (number_of refused))
 
 -- What is made of a detector's answer. Machine says the same by the push.
 abbrev pub answered_as : Reel → Stage → Detector → Result Cadence Refusal → Next
@@ -31,7 +32,7 @@ answered_as r stage d (Ok c) = record {
   reel = reel_of stage r.pictured d (tallied_in c r.tally);
   said = Frame r.detector.lock.course.taken c (locked_of d.lock);
 }
-answered_as r stage d (Err refused) = close r (Fault refused)
+answered_as r stage d (Err refused) = close r (Fault (number_of refused))
 
 unfoldable pub pushed_as : Reel → Stage → Pushed → Next
 pushed_as r stage p = answered_as r stage p.detector p.answer

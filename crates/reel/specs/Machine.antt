@@ -1,7 +1,6 @@
 -- The same, a unit at a time: what the machine's functions give, on every state that its struct can hold, and the machine fed a whole file.
 use Rattle.std.specs.Prelude.{ℕ, zero, suc, ◌+◌, ◌-◌, ◌≤◌, min, ◌≡◌, Bool, cond, List, [], ◌∷◌, Option, Some, None, eqb, leb, length, take, drop}
 use Rattle.laws.specs.Refusal.{lowest}
-use Rattle.refusal.specs.declared.Refusal.TheVariants as refusal
 use Rattle.field.specs.declared.Cadence.{Cadence}
 use Rattle.field.specs.declared.Cadence.TheVariants as cadence
 use Rattle.plane.specs.Plane.{grid_shape}
@@ -18,7 +17,7 @@ use Rattle.reel.specs.declared.Stage.{Stage}
 use Rattle.reel.specs.declared.Stage.TheVariants.{ShapeCount, ShapeNumbers, EntryCount, Entries, Pictures, Done}
 use Rattle.reel.specs.declared.Reel.{Reel}
 use Rattle.reel.specs.declared.Next.{Next}
-use Rattle.reel.specs.Reel.{shape_count_tests, shape_tests, pictured_in, shown, entry_tests, picture_bytes, picture_count_tests, no_frames, refused}
+use Rattle.reel.specs.Reel.{shape_count_tests, shape_tests, pictured_in, shown, entry_tests, picture_bytes, picture_count_tests, no_frames}
 
 abbrev pub reel_of : Stage → Option Pictured → Detector → Tally → Reel
 reel_of stage p d t = record { stage = stage; pictured = p; detector = d; tally = t }
@@ -47,10 +46,10 @@ close r said = record { reel = reel_of Done r.pictured r.detector r.tally; said 
 
 -- a unit of k bytes, or the file is cut short; then it is judged
 abbrev pub whole_of : Reel → ℕ → List ℕ → Next → Next
-whole_of r k u more = cond (leb k (length u)) more (close r (Fault refusal.ShortInput))
+whole_of r k u more = cond (leb k (length u)) more (close r (Fault 6))
 
 abbrev pub judged_of : Reel → List (ℕ × Bool) → Next → Next
-judged_of r tests more = cond (eqb (lowest tests) 0) more (close r (Fault (refused (lowest tests))))
+judged_of r tests more = cond (eqb (lowest tests) 0) more (close r (Fault (lowest tests)))
 
 -- A count with one more in it. It stops at the largest number that the struct holds, which no reel comes near.
 abbrev pub one_more : ℕ → ℕ
@@ -74,7 +73,7 @@ pushed_of r stage store u =
       reel = reel_of stage r.pictured (next (state_of r store) (push u)).detector (tallied_in (cadence_in (state_of r store) u) r.tally);
       said = Frame r.detector.lock.course.taken (cadence_in (state_of r store) u) (locked_of (next (state_of r store) (push u)).detector.lock);
     })
-    (close r (Fault (refused (number_in (state_of r store) u))))
+    (close r (Fault (number_in (state_of r store) u)))
 
 unfoldable pub shape_count_of : Reel → List ℕ → Next
 shape_count_of r u = whole_of r 2 u (judged_of r (shape_count_tests (word_at u 0)) (on_to r (cond (eqb (word_at u 0) 0) EntryCount ShapeNumbers)))
@@ -101,7 +100,7 @@ unfoldable pub picture_store : Reel → List ℕ → List ℕ → List ℕ
 picture_store r store u = cond (leb (picture_bytes r.pictured) (length u)) (next (state_of r store) (push (picture_in r u))).store store
 
 unfoldable pub end_of : Reel → List ℕ → Next
-end_of r u = cond (eqb (length u) 0) (close r (Totals r.tally)) (close r (Fault refusal.Outside))
+end_of r u = cond (eqb (length u) 0) (close r (Totals r.tally)) (close r (Fault 3))
 
 abbrev pub next_at : Stage → Reel → List ℕ → List ℕ → Next
 next_at ShapeCount r store u = shape_count_of r u

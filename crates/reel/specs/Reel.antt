@@ -3,8 +3,6 @@
 use Rattle.std.specs.Prelude.{ℕ, zero, suc, ◌+◌, ◌*◌, Bool, cond, ◌||◌, List, [], ◌∷◌, Option, Some, None, eqb, leb, length, take, drop, replicate}
 use Rattle.std.specs.Option.{is_some}
 use Rattle.laws.specs.Refusal.{lowest}
-use Rattle.refusal.specs.declared.Refusal.{Refusal}
-use Rattle.refusal.specs.declared.Refusal.TheVariants as refusal
 use Rattle.field.specs.declared.Cadence.{Cadence}
 use Rattle.field.specs.declared.Cadence.TheVariants as cadence
 use Rattle.field.specs.Field.{parity_named}
@@ -64,26 +62,13 @@ tallied cadence.None t = record { whole = t.whole; drop = t.drop; spanning = t.s
 
 -- ---- the file, from its end to its start: each section is given the bytes that are left
 
--- the refusal that a number of docs/RULES.md stands for: 10 and any other number are too far ahead, which no file meets
-abbrev pub refused : ℕ → Refusal
-refused n =
-    cond (eqb n 1) refusal.PlaneCount
-    (cond (eqb n 2) refusal.OnlyLuma
-    (cond (eqb n 3) refusal.Outside
-    (cond (eqb n 4) refusal.Shape
-    (cond (eqb n 5) refusal.Differ
-    (cond (eqb n 6) refusal.ShortInput
-    (cond (eqb n 7) refusal.ShortOutput
-    (cond (eqb n 8) refusal.Colour
-    (cond (eqb n 9) refusal.TooManyFrames refusal.TooFarAhead))))))))
-
 -- A unit of k bytes is read whole, or the file is cut short: 6.
 unfoldable pub whole : ℕ → (List ℕ → List ℕ → List Said) → List ℕ → List Said
-whole k more bytes = cond (leb k (length bytes)) (more (take k bytes) (drop k bytes)) (Fault refusal.ShortInput ∷ [])
+whole k more bytes = cond (leb k (length bytes)) (more (take k bytes) (drop k bytes)) (Fault 6 ∷ [])
 
 -- Then it is judged, and the lowest number ends the file.
 abbrev pub judged : List (ℕ × Bool) → List Said → List Said
-judged tests more = cond (eqb (lowest tests) 0) more (Fault (refused (lowest tests)) ∷ [])
+judged tests more = cond (eqb (lowest tests) 0) more (Fault (lowest tests) ∷ [])
 
 -- A frame is pushed: its number, its cadence, and whether there is a lock after it.
 abbrev pub frame : State → Tally → Push → (State → Tally → List Said) → List Said
@@ -91,11 +76,11 @@ frame state t u more =
     cond (eqb (number_in state u) 0)
     (Frame state.detector.lock.course.taken (cadence_in state u) (locked_of (next state (push u)).detector.lock)
     ∷ more (next state (push u)) (tallied (cadence_in state u) t))
-    (Fault (refused (number_in state u)) ∷ [])
+    (Fault (number_in state u) ∷ [])
 
 -- Bytes after the end: 3.
 abbrev pub ending : Tally → List ℕ → List Said
-ending t bytes = cond (eqb (length bytes) 0) (Totals t ∷ []) (Fault refusal.Outside ∷ [])
+ending t bytes = cond (eqb (length bytes) 0) (Totals t ∷ []) (Fault 3 ∷ [])
 
 unfoldable pub pictures : ℕ → Option Pictured → State → Tally → List ℕ → List Said
 pictures zero p state t bytes = ending t bytes

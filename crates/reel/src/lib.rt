@@ -62,7 +62,8 @@ pub enum Said {
     Quiet,
     Frame(u64, Cadence, bool),
     Totals(Tally),
-    Fault(Refusal),
+    // A number, and no `Refusal`: `listing::write` takes any, and `TellsWhatWasSaid` of `cadence` speaks of 0 to 9.
+    Fault(u8),
 }
 
 #[derive(Clone, Copy, Debug, PartialEq, Eq)]
@@ -334,7 +335,7 @@ impl Reel {
     {
         match self.unit(store, unit) {
             Ok(next) => next,
-            Err(refusal) => self.close(Said::Fault(refusal)),
+            Err(refusal) => self.close(Said::Fault(refusal.number())),
         }
     }
 }
