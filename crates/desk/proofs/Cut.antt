@@ -1,9 +1,8 @@
 -- The code holds shapes whose numbers are cut to their places (crate `numbers`). No call's answer changes by it.
-use Prim.Native.Nat.{ℕ, ◌≤◌, min}
+use Prim.Native.Nat.{ℕ, min}
 use mathlib.Core.Path.{◌≡◌, ap, ◌∙◌}
 use mathlib.Core.Bool.{Bool, true, ◌&&◌}
 use mathlib.Core.List.{List, [], ◌∷◌}
-use borrow.Author.Tests.{le-leb}
 use lib.Dec.{leb, lit<}
 use lib.IntN.{ℤ}
 use lib.Ieee.{Float}
@@ -68,13 +67,13 @@ module _ (layout coordinates : Bool) (s : Shape) (bytes : ℕ) where
 
 pub reads_on :
     {A : Type 0} (value : Shape → ℤ → ℤ → A) (n : PlaneNumbers) (bytes : ℕ) (x y : ℤ) (r : Result A Refusal) (old : A) {held : Shape} {x' y' : ℤ} →
-    n.layout ≤ 3 → held ≡ cut (shape_named n) → x' ≡ x → y' ≡ y →
+    leb n.layout 3 ≡ true → held ≡ cut (shape_named n) → x' ≡ x → y' ≡ y →
     no_of r ≡ lowest (at_tests held bytes x' y') → values_of r ≡ when_done (lowest (at_tests held bytes x' y')) (value held x' y') →
     Hands r (at_no n bytes x y) (value (shape_named n) x y) old
 reads_on value n bytes x y r old named e p q number values =
     let layout = leb n.layout 3 in
     let inner = in_reach x && in_reach y in
-    let same = number_behind 3 (le-leb n.layout 3 named) (λ i. at_tests (e i) bytes (p i) (q i)) ∙ read_number layout inner (shape_named n) bytes in
+    let same = number_behind 3 named (λ i. at_tests (e i) bytes (p i) (q i)) ∙ read_number layout inner (shape_named n) bytes in
     let h = hands r (value (cut (shape_named n)) x y) old (number ∙ same) (values ∙ (λ i. when_done (same i) (value (e i) (p i) (q i)))) in
     record { number = h.number; place = h.place ∙ read_value layout inner (shape_named n) bytes (λ (s : Shape). value s x y) old }
 

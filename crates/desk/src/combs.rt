@@ -1,4 +1,5 @@
-// Comb by number.
+// Comb by number. What is cut has a name before each call, since a wrong program gives the call another number.
+// Each export ends in a match that writes: of a place that a closure of `Result::map` wrote a proof knows nothing.
 ghost use Rattle.std.specs.Prelude.{◌≡◌, length};
 ghost use Rattle.laws.specs.Refusal.{written};
 ghost use Rattle.comb.specs.Comb.{plane_comb, rgba_comb};

@@ -1,4 +1,5 @@
 // Fields by number.
+// Each export ends in a match that writes: of a place that a closure of `Result::map` wrote a proof knows nothing.
 ghost use Rattle.std.specs.Prelude.{◌≡◌, ◌==◌, cond, leb, [], ◌∷◌};
 ghost use Rattle.laws.specs.Refusal.{when_done, written};
 ghost use Rattle.refusal.specs.Refusal.{no_of, values_of};

@@ -1,4 +1,6 @@
 // The rows a field lacks, by number.
+// An early return is no plainer with `?`: an inner function would take every parameter and clause a second time.
+// Each export ends in a match that writes: of a place that a closure of `Result::map` wrote a proof knows nothing.
 ghost use Rattle.std.specs.Prelude.{◌≡◌, length};
 ghost use Rattle.laws.specs.Refusal.{written};
 ghost use Rattle.laws.specs.Rows.{over};
@@ -8,6 +10,7 @@ ghost use Rattle.numbers.specs.Numbers.{shape_named};
 ghost use Rattle.desk.specs.Filters.{rows_named, making_named, all_named, edge_no, sample_no, sample_named, plane_no, plane_named};
 ghost use Rattle.desk.specs.Inner.{cut_planes};
 
+use crate::planes;
 use numbers::PlaneNumbers;
 use refusal::Refusal;
 
@@ -17,7 +20,7 @@ pub extern "C" fn desk_edge(cur: &[u8], shape: PlaneNumbers, x: i32, y: i32, sla
     ensures value { result ≡ edge_no shape (length cur.now) x y }
     ensures slant_after { slant.new ≡ written (edge_no shape (length cur.now) x y) (edge_of (value_of cur.now (shape_named shape)) x y) slant.old }
 {
-    if 3 < shape.layout {
+    if !planes::is_named(shape) {
         return Refusal::Outside.number();
     }
     match filter::edge(cur, numbers::shape_named(shape), x, y) {
@@ -48,11 +51,12 @@ fn making_named(
     }
 }
 
-// The codes are numbers up to here, since C has no others to give.
+// The codes are numbers up to here: the definitions `rows_named` and `quality_named`, by which the exports' clauses
+// speak, give an answer to every number.
 fn all_named(quality: u8, before: PlaneNumbers, cur: PlaneNumbers, after: PlaneNumbers) -> bool
     ensures { result ≡ all_named quality before cur after }
 {
-    (quality <= 3) & (before.layout <= 3) & (cur.layout <= 3) & (after.layout <= 3)
+    (quality <= 3) & planes::is_named(before) & planes::is_named(cur) & planes::is_named(after)
 }
 
 // The value at a place, by the quality's code: 0 Weave, 1 Bob, 2 Yadif, 3 Bwdif. `first` is 0 or 1 and

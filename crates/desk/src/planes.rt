@@ -1,5 +1,6 @@
 // The reads of one sample, by number.
-ghost use Rattle.std.specs.Prelude.{◌≡◌, nat_abs, length};
+// Each export ends in a match that writes: of a place that a closure of `Result::map` wrote a proof knows nothing.
+ghost use Rattle.std.specs.Prelude.{◌≡◌, leb, nat_abs, length};
 ghost use Rattle.laws.specs.Refusal.{written};
 ghost use Rattle.refusal.specs.Refusal.{no_of};
 ghost use Rattle.plane.specs.Plane.{code_of, value_of};
@@ -9,6 +10,13 @@ ghost use Rattle.desk.specs.Planes.{code_no, at_no};
 
 use numbers::PlaneNumbers;
 use refusal::Refusal;
+
+// Whether the layout's code names one.
+pub(crate) fn is_named(shape: PlaneNumbers) -> bool
+    ensures { result ≡ leb shape.layout 3 }
+{
+    shape.layout <= 3
+}
 
 // Whether a coordinate lies in a plane of this size, as large as the host says it is.
 fn is_inside(x: i32, size: u64) -> bool
@@ -23,7 +31,7 @@ fn readable(shape: PlaneNumbers, bytes: usize, x: i32, y: i32) -> Result<(), Ref
 {
     let held = numbers::shape_named(shape);
     let inner = is_inside(x, u64::from(shape.width)) & is_inside(y, u64::from(shape.height));
-    Refusal::Outside.unless((shape.layout <= 3) & inner)?;
+    Refusal::Outside.unless(is_named(shape) & inner)?;
     Refusal::Shape.unless(held.is_good())?;
     Refusal::ShortInput.unless(held.bytes() <= bytes)
 }
@@ -36,6 +44,7 @@ pub extern "C" fn desk_code(plane: &[u8], shape: PlaneNumbers, x: i32, y: i32, c
 {
     match readable(shape, plane.len(), x, y) {
         Ok(()) => {
+            // A value of its own, since a wrong program drops it where it is written.
             let found = plane::code_at(plane, numbers::shape_named(shape), x as u16, y as u16);
             *code = found;
             0
@@ -51,7 +60,8 @@ pub extern "C" fn desk_at(plane: &[u8], shape: PlaneNumbers, x: i32, y: i32, val
     ensures value { result ≡ at_no shape (length plane.now) x y }
     ensures value_after { value.new ≡ written (at_no shape (length plane.now) x y) (value_of plane.now (shape_named shape) x y) value.old }
 {
-    if 3 < shape.layout {
+    // An early return is no plainer with `?`: an inner function would take every parameter and clause a second time.
+    if !is_named(shape) {
         return Refusal::Outside.number();
     }
     match plane::at(plane, numbers::shape_named(shape), x, y) {

@@ -118,6 +118,7 @@ fn outline_in(state: &[u8]) -> Detector
     requires { 96 ≤ length state.now }
     ensures { result ≡ detector_with (replicate 15 0) (detector_in state.now).lock.course nothing_kept (detector_in state.now).last }
 {
+    // It has a name since a wrong program forgets it, in a line that stands once.
     let last = last_in(state);
     let fresh = Detector::new();
     Detector {
@@ -147,6 +148,7 @@ fn chosen_number(chosen: Option<Parity>) -> u64
     }
 }
 
+// In the order of the state's bytes, which is that of the definition `detector_numbers`.
 fn numbers_of(detector: &Detector) -> [u64; 10]
     ensures { result ≡ detector_numbers detector.now }
 {
@@ -288,6 +290,10 @@ fn push_picture(
 
 // ---- the calls
 
+// Each ends in a match that writes: of a place that a closure of `Result::map` wrote a proof knows nothing. An early
+// return is no plainer with `?`: an inner function would take every parameter and clause a second time. What has a
+// name and is used once is what a wrong program changes, in a line that stands once.
+
 // Busy blocks and all blocks of a field, 0 top or 1 bottom, against the same field of the frame that
 // `store` keeps as 8-bit samples, row by row. Codes are not shifted, and one above 2^depth - 1 counts as
 // that: a biplanar luma deeper than 8 bits, whose codes stand in the high bits, goes through readback
@@ -322,10 +328,7 @@ pub extern "C" fn desk_cadences(entries: &[u8], out: &mut [u8]) -> u8
     ensures value { result ≡ cadences_no entries.now (length out.old) }
     ensures out_after { out.new ≡ written result (over (cadences_of entries.now) out.old) out.old }
 {
-    match entry::cadences(out, entries) {
-        Ok(()) => 0,
-        Err(refused) => refused.number(),
-    }
+    refusal::told(entry::cadences(out, entries))
 }
 
 // A fresh detector at the start of `state`. Number 7.

@@ -2,7 +2,7 @@
 // and byte slices, the answer a number of docs/RULES.md, "What the desk gets back".
 #![tactic(auto)]
 
-ghost use Rattle.std.specs.Prelude.{◌≡◌};
+ghost use Rattle.std.specs.Prelude.{◌≡◌, leb};
 ghost use Rattle.picturedesk.specs.Inner.{cut_planes, cut_asked};
 ghost use Rattle.picturedesk.specs.Pictures.{chosen_named, source_named, output_named, planes_named, layouts_named, output_good, all_named, asked_named, named_no, named_out};
 
@@ -38,13 +38,14 @@ pub struct OutputNumbers {
     pub later: u32,
 }
 
+// Every number has an answer here, as in the definitions `chosen_named` and `source_named`, by which the export's
+// clauses speak; `all_named` refuses a code that names nothing.
 fn chosen_named(code: u32) -> Option<Parity>
     ensures { result ≡ chosen_named code }
 {
-    if code <= 1 {
-        Some(Parity::named(u64::from(code)))
-    } else {
-        None
+    match code {
+        0..=1 => Some(Parity::named(u64::from(code))),
+        _ => None,
     }
 }
 
@@ -88,10 +89,17 @@ fn planes_named(n: FrameNumbers) -> Planes
     }
 }
 
+// Whether the layout's code names one.
+fn is_named(shape: PlaneNumbers) -> bool
+    ensures { result ≡ leb shape.layout 3 }
+{
+    shape.layout <= 3
+}
+
 fn layouts_named(n: FrameNumbers) -> bool
     ensures { result ≡ layouts_named n }
 {
-    (n.luma.layout <= 3) & (n.cb.layout <= 3) & (n.cr.layout <= 3)
+    is_named(n.luma) & is_named(n.cb) & is_named(n.cr)
 }
 
 fn all_named(
@@ -155,6 +163,7 @@ pub extern "C" fn desk_picture<'a>(
     ensures value { result ≡ named_no quality output conversion previous current next previous_luma previous_cb previous_cr current_luma current_cb current_cr next_luma next_cb next_cr out }
     ensures out_after { out.new ≡ named_out result quality output conversion previous current next previous_luma previous_cb previous_cr current_luma current_cb current_cr next_luma next_cb next_cr out }
 {
+    // No plainer with `?`: an inner function would take every parameter and clause a second time.
     if !all_named(quality, output, previous, current, next) {
         return Refusal::Outside.number();
     }

@@ -32,7 +32,7 @@ returns-in-Ok c =
     let slant = edge_of (value_of a.cur.now (shape_named a.shape)) a.x a.y in
     let h =
     reads_on (λ (s : Shape). edge_of (value_of a.cur.now s)) a.shape (length a.cur.now) a.x a.y (Ok c.in-Ok.found) a.slant.now
-    (omega arith) c.shape_named.ensures (to_z-of_z c.ranges.x) (to_z-of_z c.ranges.y) c.in-Ok.ensures.0 c.in-Ok.ensures.1 in
+    (sym c.if-not-is_named.ensures) c.shape_named.ensures (to_z-of_z c.ranges.x) (to_z-of_z c.ranges.y) c.in-Ok.ensures.0 c.in-Ok.ensures.1 in
     let same = h.place ∙ ap (λ (k : ℕ). written k slant a.slant.now) (sym h.number) in
     record {
       value = h.number;
@@ -44,5 +44,5 @@ returns-in-Err c =
     let a = c.args in
     let h =
     reads_on (λ (s : Shape). edge_of (value_of a.cur.now s)) a.shape (length a.cur.now) a.x a.y (Err c.in-Err.refusal) a.slant.now
-    (omega arith) c.shape_named.ensures (to_z-of_z c.ranges.x) (to_z-of_z c.ranges.y) c.in-Err.ensures.0 c.in-Err.ensures.1 in
+    (sym c.if-not-is_named.ensures) c.shape_named.ensures (to_z-of_z c.ranges.x) (to_z-of_z c.ranges.y) c.in-Err.ensures.0 c.in-Err.ensures.1 in
     record { value = c.number-in-Err.ensures ∙ h.number; slant_after = h.place }
