@@ -29,7 +29,7 @@ returns c =
     ∙ (number_behind 3 passed (λ i. plane_tests (held i) (length a.before.now) (length a.cur.now) (length a.after.now) (length a.out.now))
     ∙ plane_number making passes (length a.before.now) (length a.cur.now) (length a.after.now) (length a.out.now)) in
     record {
-      value = c.number-2.ensures ∙ number;
+      value = c.told.ensures ∙ number;
       out_after =
           c.plane.ensures.out_after
           ∙ written_alike (no_of c.plane.result) a.out.now
@@ -37,5 +37,5 @@ returns c =
           ap (λ (m : Making). over (plane_made m a.before.now a.cur.now a.after.now) a.out.now)
           (held
           ∙ plane_same making passes (length a.before.now) (length a.cur.now) (length a.after.now) (length a.out.now) (sym number ∙ z)))
-          ∙ ap (λ (k : ℕ). written k (over (plane_made making a.before.now a.cur.now a.after.now) a.out.now) a.out.now) (sym c.number-2.ensures);
+          ∙ ap (λ (k : ℕ). written k (over (plane_made making a.before.now a.cur.now a.after.now) a.out.now) a.out.now) (sym c.told.ensures);
     }
