@@ -66,7 +66,7 @@ pub fn same(answer: &[u8], k: u8, came: u64) -> bool
     came == number(answer, k)
 }
 
-// By type, since tools/calls names a comparison by the type of what came.
+// A name of its own for each width of a number, since records are compared width by width.
 pub fn same_byte(answer: &[u8], k: u8, came: u8) -> bool
     ensures { result ≡ eqb came (number_of answer.now k) }
 {

@@ -4,7 +4,7 @@
 // that are proved (specs/Cards.antt) are run too.
 #![tactic(auto)]
 
-ghost use Rattle.std.specs.Prelude.{◌≡◌, ◌≤◌, List, ◌∷◌};
+ghost use Rattle.std.specs.Prelude.{◌≡◌, ◌≤◌, ℕ, List, ◌∷◌, Some};
 ghost use Rattle.telecine.specs.History.{Call};
 ghost use Rattle.cards.specs.Cards.{measured_busy, entry, to_entry0, to_entry9, detector_after};
 
@@ -31,6 +31,8 @@ struct Bench<'a, P> {
     differ: u64,
 }
 
+// The words that `{:?}` prints, as bytes that the list's are compared with: printed ones would have to be kept first, and no text is kept
+// here but a number's.
 fn cadence_word(cadence: Cadence) -> &'static [u8] {
     match cadence {
         Cadence::None => b"None",
@@ -83,6 +85,7 @@ impl<'a, P: Print> Bench<'a, P> {
     }
 
     fn tell_number(&mut self, name: &str, came: u64) -> Told {
+        // Room for any number, since there is no heap to print it to.
         let mut text = [0u8; 20];
         let n = io::decimal(came, &mut text);
         self.tell(name, &text[..n])
@@ -144,15 +147,21 @@ fn after_entry_0() -> Detector
 fn after_entry_9() -> Detector
     ensures { result ≡ detector_after to_entry9 }
 {
-    let one = entry(after_entry_0(), 0, 40);
-    let two = entry(one, 40, 40);
-    let three = entry(two, 40, 0);
-    let four = entry(three, 40, 40);
-    let five = entry(four, 40, 40);
-    let six = entry(five, 0, 40);
-    let seven = entry(six, 40, 40);
-    let eight = entry(seven, 40, 0);
-    entry(eight, 40, 40)
+    [
+        (0, 40),
+        (40, 40),
+        (40, 0),
+        (40, 40),
+        (40, 40),
+        (0, 40),
+        (40, 40),
+        (40, 0),
+        (40, 40),
+    ]
+    .iter()
+    .fold(after_entry_0(), |detector, counts| {
+        entry(detector, counts.0, counts.1)
+    })
 }
 
 // So many stills after entry 9, which is a moved frame with the lock on it.
@@ -161,7 +170,7 @@ fn after_stills(n: u64) -> Stills
 {
     let mut detector = after_entry_9();
     let mut kept = 0;
-    for taken in 0..n {
+    for _taken in 0..n {
         detector = entry(detector, 0, 0);
         kept += u64::from(detector.locked());
     }
@@ -203,42 +212,36 @@ fn pattern(step: u64, n: u64) -> Symbol {
     PATTERN[((step % 5 + n % 5) % 5) as usize]
 }
 
-// At which frame of the pattern a fresh lock is locked first, counted from 1; 0 for none of 15.
-fn locks_from(step: u64) -> u64
-    ensures { result ≤ 15 }
+// At which of 15 frames of the pattern a fresh lock is locked first, counted from 1.
+fn locks_from(step: u64) -> Option<u64>
+    ensures { (n : ℕ) → result ≡ Some n → n ≤ 15 }
 {
     let mut lock = Lock::new();
     for n in 0..15 {
         lock = lock.push(Some(pattern(step, n))).lock;
         if lock.locked() {
-            return n + 1;
+            return Some(n + 1);
         }
     }
-    0
+    None
 }
 
+// The cards of the five steps, in their order.
+const PATTERN_CARDS: [&str; 5] = [
+    "frame at which the clean pattern from step 0 locks",
+    "frame at which the clean pattern from step 1 locks",
+    "frame at which the clean pattern from step 2 locks",
+    "frame at which the clean pattern from step 3 locks",
+    "frame at which the clean pattern from step 4 locks",
+];
+
 impl<P: Print> Bench<'_, P> {
+    // Of none, 0 is told.
     fn pattern_cards(&mut self) -> Told {
-        self.tell_number(
-            "frame at which the clean pattern from step 0 locks",
-            locks_from(0),
-        )?;
-        self.tell_number(
-            "frame at which the clean pattern from step 1 locks",
-            locks_from(1),
-        )?;
-        self.tell_number(
-            "frame at which the clean pattern from step 2 locks",
-            locks_from(2),
-        )?;
-        self.tell_number(
-            "frame at which the clean pattern from step 3 locks",
-            locks_from(3),
-        )?;
-        self.tell_number(
-            "frame at which the clean pattern from step 4 locks",
-            locks_from(4),
-        )
+        for (step, name) in PATTERN_CARDS.iter().enumerate() {
+            self.tell_number(name, locks_from(step as u64).unwrap_or(0))?;
+        }
+        Ok(())
     }
 }
 
@@ -288,12 +291,9 @@ fn moving_of(blocks: u64) -> u64 {
 
 // The largest count of the first field with which it repeats where all of the second are busy.
 fn quiet_of(blocks: u64) -> u64 {
-    for n in 0..blocks {
-        if pulldown::classify_counts(n + 1, blocks, blocks) != Symbol::RepeatFirst {
-            return n;
-        }
-    }
-    blocks
+    (0..blocks)
+        .find(|n| pulldown::classify_counts(*n + 1, blocks, blocks) != Symbol::RepeatFirst)
+        .unwrap_or(blocks)
 }
 
 impl<P: Print> Bench<'_, P> {
@@ -392,6 +392,7 @@ fn run(out: &(impl Print + Drop), list: &[u8]) -> Told {
 
 // What cannot be written ends the run, and nobody is left to be told.
 fn main(rt: HostRuntime) {
+    // Room for the longest list that is read, since there is no heap for it.
     let mut buffer = io::buffer();
     let n = io::read_full(0, &mut buffer);
     let _ = run(&rt, &buffer[..n]);

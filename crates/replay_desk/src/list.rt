@@ -1,6 +1,6 @@
 // The list: its records one after another, off standard input.
 use crate::calls::Call;
-use pages::{Ask, Held};
+use pages::Held;
 
 // The bytes of a record's head, and of the longest record.
 const HEAD: usize = 32;
@@ -42,10 +42,9 @@ impl List {
     // Reads until n bytes are held, or all that is left of the list, and answers how many are.
     fn hold(&mut self, n: usize) -> usize {
         let have = self.held.count(&self.buffer);
-        if let Ask::Read(from) = pages::next(have, false, n, 0, 0, 0) {
+        if have < n {
             self.held = self.held.front(&mut self.buffer);
-            let start = from.min(LONGEST);
-            let came = io::read_full(0, &mut self.buffer[start..]);
+            let came = io::read_full(0, &mut self.buffer[have..]);
             self.held = self.held.came(&self.buffer, came);
         }
         self.held.count(&self.buffer)
