@@ -327,8 +327,9 @@ fn recipe_for(asked: Asked) -> Recipe
     }
 }
 
-// In a biplanar frame one slice is lent for cb and for cr. Nine slices and no struct: what holds a reference
-// has no plain contract, and `unique` reads the one of this.
+// In a biplanar frame one slice is lent for cb and for cr. Nine slices and no struct: the lemma
+// `picture_of_once` of crates/unique is under `OneAnswer`, for which a struct of references has no plain
+// contract.
 pub fn picture_of<'a>(
     out: &mut [u8],
     asked: Asked,
@@ -360,12 +361,12 @@ pub fn picture_of<'a>(
         cb: next_cb,
         cr: next_cr,
     };
-    judge(asked, previous, current, next, out.len())?;
     let trio = Trio {
         before: pick(asked.output.before, previous, current, next),
         cur: current,
         after: pick(asked.output.after, previous, current, next),
     };
+    judge(asked, previous, current, next, out.len())?;
     paint(out, recipe_for(asked), trio);
     Ok(())
 }
