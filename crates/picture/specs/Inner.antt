@@ -172,10 +172,3 @@ pub record Tiled (part : ℕ → List ℕ) (count width left span : ℕ) (old ne
 
 abbrev pub painted_tile : Place → ℕ → (ℕ → List ℕ) → List ℕ → List ℕ → ℕ → Type 0
 painted_tile place stride part old new done = Tiled part place.height stride (place.left * 4) (place.width * 4) old new done
-
--- the rows of a tile, up to where it starts and up to where it ends
-abbrev pub PaintedTo : Recipe → Serving → Serving → Serving → Place → List ℕ → Type 0
-PaintedTo r luma cb cr place = Painted (λ y. row_in r luma cb cr (place.top + y)) place.height (r.luma.cur.width * 4) (place.left * 4)
-
-abbrev pub PaintedWith : Recipe → Serving → Serving → Serving → Place → List ℕ → Type 0
-PaintedWith r luma cb cr place = Painted (λ y. row_in r luma cb cr (place.top + y)) place.height (r.luma.cur.width * 4) (place.left * 4 + place.width * 4)

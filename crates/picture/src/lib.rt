@@ -12,7 +12,7 @@ ghost use Rattle.laws.specs.Rows.{laid, over};
 ghost use Rattle.refusal.specs.Refusal.{no_of};
 ghost use Rattle.plane.specs.Plane.{half};
 ghost use Rattle.picture.specs.Picture.{good_shapes, chroma_fits, whole_frame, served, quality_for, pixel_of, frames_lent, asked_no, asked_out};
-ghost use Rattle.picture.specs.Inner.{making_of, recipe_for, lumas_in, cbs_in, crs_in, frames_in, serving_in, serving, Makeable, Paintable, Rooms, Inside, Tile, TileFits, TileMade, chroma_of, part_in, row_in, rows_in, painted_row, painted_at, PaintedTo, PaintedWith, painted_tile};
+ghost use Rattle.picture.specs.Inner.{making_of, recipe_for, lumas_in, cbs_in, crs_in, frames_in, serving_in, serving, Makeable, Paintable, Rooms, Inside, Tile, TileFits, TileMade, chroma_of, part_in, painted_row, painted_at, painted_tile};
 
 use colour::{Conversion, Rgb};
 use field::{Output, Parity, Source};
@@ -205,73 +205,86 @@ fn samples(out: &mut [f32], making: Making, before: &[u8], cur: &[u8], after: &[
     let _ = fill::part(out, making, before, cur, after, place);
 }
 
-// A tile, with places for its samples.
-fn paint_with(
-    out: &mut [u8],
+// A picture that was judged, to be painted of these frames.
+#[derive(Clone, Copy)]
+struct Job<'a> {
     recipe: Recipe,
-    trio: Trio<'_>,
-    place: Place,
-    luma: &mut [f32],
-    cb: &mut [f32],
-    cr: &mut [f32],
-)
-    requires paintable { Paintable recipe (lumas_in trio) (cbs_in trio) (crs_in trio) }
-    requires tile { Tile place recipe.luma.cur (length out.old) }
-    requires painted_to { PaintedTo recipe (lumas_in trio) (cbs_in trio) (crs_in trio) place out.old }
-    requires rooms { Rooms luma.old cb.old cr.old }
-    ensures { PaintedWith recipe (lumas_in trio.entry) (cbs_in trio.entry) (crs_in trio.entry) place out.new }
-{
-    let Trio { before, cur, after } = trio;
-    let chroma = chroma_of(place);
-    samples(luma, recipe.luma, before.luma, cur.luma, after.luma, place);
-    samples(cb, recipe.cb, before.cb, cur.cb, after.cb, chroma);
-    samples(cr, recipe.cr, before.cr, cur.cr, after.cr, chroma);
-    let stride = usize::from(recipe.luma.cur.width) * 4;
-    paint_rows(out, recipe.conversion, stride, place, luma, cb, cr);
+    trio: Trio<'a>,
+    ghost paintable: { Paintable recipe (lumas_in trio) (cbs_in trio) (crs_in trio) },
 }
 
-fn paint_tile(out: &mut [u8], recipe: Recipe, trio: Trio<'_>, place: Place)
-    requires paintable { Paintable recipe (lumas_in trio) (cbs_in trio) (crs_in trio) }
-    requires tile { Tile place recipe.luma.cur (length out.old) }
-    requires painted_to { PaintedTo recipe (lumas_in trio) (cbs_in trio) (crs_in trio) place out.old }
-    ensures { PaintedWith recipe (lumas_in trio.entry) (cbs_in trio.entry) (crs_in trio.entry) place out.new }
-{
-    let mut luma = [0.0f32; 4096];
-    let mut cb = [0.0f32; 1024];
-    let mut cr = [0.0f32; 1024];
-    paint_with(out, recipe, trio, place, &mut luma, &mut cb, &mut cr);
-}
+impl<'a> Job<'a> {
+    ghost use Rattle.picture.specs.Jobs.{row_of, picture_in, PaintedTo, PaintedWith};
 
-// `count` rows from an even row on.
-fn paint_group(out: &mut [u8], recipe: Recipe, trio: Trio<'_>, from: u16, count: u16)
-    requires paintable { Paintable recipe (lumas_in trio) (cbs_in trio) (crs_in trio) }
-    requires from_value { (from % 2 ≡ 0) × (from + count ≤ recipe.luma.cur.height) × (count ≤ 8) × (length out.old ≡ count * (recipe.luma.cur.width * 4)) }
-    ensures { out.new ≡ laid count (λ y. row_in recipe (lumas_in trio.entry) (cbs_in trio.entry) (crs_in trio.entry) (from + y)) }
-{
-    let width = recipe.luma.cur.width;
-    for left in (0..width).step_by(512) {
-        let columns = (width - left).min(512);
-        let place = Place {
-            top: from,
-            height: count,
-            left,
-            width: columns,
-        };
-        paint_tile(out, recipe, trio, place);
+    // A tile, with places for its samples.
+    fn paint_with(
+        self,
+        out: &mut [u8],
+        place: Place,
+        luma: &mut [f32],
+        cb: &mut [f32],
+        cr: &mut [f32],
+    )
+        requires tile { Tile place self.recipe.luma.cur (length out.old) }
+        requires painted_to { PaintedTo self place out.old }
+        requires rooms { Rooms luma.old cb.old cr.old }
+        ensures { PaintedWith self.entry place out.new }
+    {
+        let Recipe {
+            luma: of_luma,
+            cb: of_cb,
+            cr: of_cr,
+            conversion,
+        } = self.recipe;
+        let Trio { before, cur, after } = self.trio;
+        let chroma = chroma_of(place);
+        samples(luma, of_luma, before.luma, cur.luma, after.luma, place);
+        samples(cb, of_cb, before.cb, cur.cb, after.cb, chroma);
+        samples(cr, of_cr, before.cr, cur.cr, after.cr, chroma);
+        let stride = usize::from(of_luma.cur.width) * 4;
+        paint_rows(out, conversion, stride, place, luma, cb, cr);
     }
-}
 
-fn paint(out: &mut [u8], recipe: Recipe, trio: Trio<'_>)
-    requires paintable { Paintable recipe (lumas_in trio) (cbs_in trio) (crs_in trio) }
-    requires width_in_bounds { recipe.luma.cur.height * (recipe.luma.cur.width * 4) ≤ length out.old }
-    ensures { out.new ≡ over (rows_in recipe (lumas_in trio.entry) (cbs_in trio.entry) (crs_in trio.entry)) out.old }
-{
-    let shape = recipe.luma.cur;
-    for from in (0..shape.height).step_by(8) {
-        let count = (shape.height - from).min(8);
-        let at = bytes_of(from, shape.width);
-        let to = at + bytes_of(count, shape.width);
-        paint_group(&mut out[at..to], recipe, trio, from, count);
+    fn paint_tile(self, out: &mut [u8], place: Place)
+        requires tile { Tile place self.recipe.luma.cur (length out.old) }
+        requires painted_to { PaintedTo self place out.old }
+        ensures { PaintedWith self.entry place out.new }
+    {
+        let mut luma = [0.0f32; 4096];
+        let mut cb = [0.0f32; 1024];
+        let mut cr = [0.0f32; 1024];
+        self.paint_with(out, place, &mut luma, &mut cb, &mut cr);
+    }
+
+    // `count` rows from an even row on.
+    fn paint_group(self, out: &mut [u8], from: u16, count: u16)
+        requires from_value { (from % 2 ≡ 0) × (from + count ≤ self.recipe.luma.cur.height) × (count ≤ 8) × (length out.old ≡ count * (self.recipe.luma.cur.width * 4)) }
+        ensures { out.new ≡ laid count (λ y. row_of self.entry (from + y)) }
+    {
+        let width = self.recipe.luma.cur.width;
+        for left in (0..width).step_by(512) {
+            let columns = (width - left).min(512);
+            let place = Place {
+                top: from,
+                height: count,
+                left,
+                width: columns,
+            };
+            self.paint_tile(out, place);
+        }
+    }
+
+    fn paint(self, out: &mut [u8])
+        requires width_in_bounds { self.recipe.luma.cur.height * (self.recipe.luma.cur.width * 4) ≤ length out.old }
+        ensures { out.new ≡ over (picture_in self.entry) out.old }
+    {
+        let shape = self.recipe.luma.cur;
+        for from in (0..shape.height).step_by(8) {
+            let count = (shape.height - from).min(8);
+            let at = bytes_of(from, shape.width);
+            let to = at + bytes_of(count, shape.width);
+            self.paint_group(&mut out[at..to], from, count);
+        }
     }
 }
 
@@ -327,8 +340,9 @@ fn recipe_for(asked: Asked) -> Recipe
     }
 }
 
-// In a biplanar frame one slice is lent for cb and for cr. Nine slices and no struct: what holds a reference
-// has no plain contract, and `unique` reads the one of this.
+// In a biplanar frame one slice is lent for cb and for cr. Nine slices and no struct: the lemma
+// `picture_of_once` of crates/unique is under `OneAnswer`, for which a struct of references has no plain
+// contract.
 pub fn picture_of<'a>(
     out: &mut [u8],
     asked: Asked,
@@ -360,12 +374,16 @@ pub fn picture_of<'a>(
         cb: next_cb,
         cr: next_cr,
     };
-    judge(asked, previous, current, next, out.len())?;
     let trio = Trio {
         before: pick(asked.output.before, previous, current, next),
         cur: current,
         after: pick(asked.output.after, previous, current, next),
     };
-    paint(out, recipe_for(asked), trio);
+    judge(asked, previous, current, next, out.len())?;
+    let job = Job {
+        recipe: recipe_for(asked),
+        trio,
+    };
+    job.paint(out);
     Ok(())
 }

@@ -5,9 +5,9 @@ use native.Mathlib.Nat.{add-mul, mul-le-mul_right}
 use native.Mathlib.Omega.{arith}
 use lib.ListN.{length}
 use Rattle.laws.proofs.Lists.{Stacked, stack_starts, stacks_rows, stack_ends}
-use Rattle.picture.specs.Inner.{row_in, lumas_in, cbs_in, crs_in}
+use Rattle.picture.specs.Jobs.{row_of}
 use Rattle.picture.proofs.Painted.{length_row}
-use Rattle.picture.proofs.paint.Goals as goal
+use Rattle.picture.proofs.Job.paint.Goals as goal
 
 -- a group ends within the output
 ends :
@@ -26,7 +26,7 @@ loop-from-init c = (counted (omega arith) (stack_starts (λ y. length_row _ _ _ 
 
 pub slice_bounds-paint_group-end : goal.slice_bounds-paint_group-end
 slice_bounds-paint_group-end c =
-    let within = ends c.loop-from.from c.min-count.result c.args.recipe.luma.cur.height c.args.recipe.luma.cur.width (length c.loop-from.out) c.loop-from-test.true
+    let within = ends c.loop-from.from c.min-count.result c.args.self.recipe.luma.cur.height c.args.self.recipe.luma.cur.width (length c.loop-from.out) c.loop-from-test.true
     (omega (arith, c.requires.width_in_bounds, c.loop-from.invariant.0.long)) c.min-count.ensures in
     omega (arith, within, c.bytes_of-at.ensures, c.bytes_of.ensures)
 
@@ -34,8 +34,8 @@ pub loop-from-preserved : goal.loop-from-preserved
 loop-from-preserved c =
     let a = c.args in
     let l = c.loop-from in
-    let width = a.recipe.luma.cur.width * 4 in
-    let row = row_in a.recipe (lumas_in a.trio) (cbs_in a.trio) (crs_in a.trio) in (
+    let width = a.self.recipe.luma.cur.width * 4 in
+    let row = row_of a.self in (
       counted (omega arith)
           (stacks_rows row width (λ y. length_row _ _ _ _ y) c.min-count.result (counted {y = l.from} (omega arith) l.invariant.0) (omega arith)
           c.requires.width_in_bounds c.bytes_of-at.ensures c.bytes_of.ensures c.paint_group.ensures),
@@ -46,8 +46,8 @@ pub returns-2 : goal.returns-2
 returns-2 c =
     let a = c.args in
     let l = c.loop-from in
-    let width = a.recipe.luma.cur.width * 4 in
-    let row = row_in a.recipe (lumas_in a.trio) (cbs_in a.trio) (crs_in a.trio) in
+    let width = a.self.recipe.luma.cur.width * 4 in
+    let row = row_of a.self in
     stack_ends (λ y. length_row _ _ _ _ y)
     (stacks_rows row width (λ y. length_row _ _ _ _ y) c.min-count.result (counted {y = l.from} (omega arith) l.invariant.0) (omega arith)
     c.requires.width_in_bounds c.bytes_of-at.ensures c.bytes_of.ensures c.paint_group.ensures)
