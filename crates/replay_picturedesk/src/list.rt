@@ -1,8 +1,8 @@
-// Made by tools/calls of the file in crates/replay_desk; not to be changed by hand. It is a copy, since no library can hold it: a public
-// function has a contract that settles its answer, and of what is read and printed, and of a call made again, no contract can say it.
+// Made by tools/calls of the file in crates/replay_desk; not to be changed by hand. A copy and not a library: a public
+// function has a contract that settles its answer, and none can speak of what is read and printed.
 // The list: its records one after another, off standard input.
 use crate::calls::Call;
-use pages::{Ask, Held};
+use pages::Held;
 
 // The bytes of a record's head, and of the longest record.
 const HEAD: usize = 32;
@@ -44,10 +44,9 @@ impl List {
     // Reads until n bytes are held, or all that is left of the list, and answers how many are.
     fn hold(&mut self, n: usize) -> usize {
         let have = self.held.count(&self.buffer);
-        if let Ask::Read(from) = pages::next(have, false, n, 0, 0, 0) {
+        if have < n {
             self.held = self.held.front(&mut self.buffer);
-            let start = from.min(LONGEST);
-            let came = io::read_full(0, &mut self.buffer[start..]);
+            let came = io::read_full(0, &mut self.buffer[have..]);
             self.held = self.held.came(&self.buffer, came);
         }
         self.held.count(&self.buffer)

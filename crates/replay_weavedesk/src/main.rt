@@ -1,5 +1,5 @@
-// Made by tools/calls of the file in crates/replay_desk; not to be changed by hand. It is a copy, since no library can hold it: a public
-// function has a contract that settles its answer, and of what is read and printed, and of a call made again, no contract can say it.
+// Made by tools/calls of the file in crates/replay_desk; not to be changed by hand. A copy and not a library: a public
+// function has a contract that settles its answer, and none can speak of what is read and printed.
 // Program `replay_weavedesk`: makes every call of a list of answers again, and prints how many were compared and
 // how many differ. The list is standard input, a record after another; `answers` says what a record is, and
 // host/differ/src/answers.rs made the list from the original. A record that differs is told at once, and a
@@ -8,47 +8,58 @@
 // nothing is shown.
 #![tactic(auto)]
 
-ghost use Rattle.std.specs.Prelude.{◌≤◌};
-
 mod calls;
 mod list;
 
 use calls::Call;
 use list::{Fault, List, Record};
-use std::io;
+use std::{fmt, io};
 
 // ---- lines
 
-fn tell_fault(rt: &impl Print, nth: u64, fault: Fault) -> io::Result<()> {
-    match fault {
-        Fault::Cut { size, came } => {
-            println!(rt; "the list ends inside record {nth}; expected {size} bytes, {came} came")
-        }
-        Fault::Size(size) => {
-            println!(rt; "record {nth} has {size} bytes by its head; expected 32 to 65536")
-        }
-        Fault::Call(number) => {
-            println!(rt;
-                "record {nth} names call {number}; expected one below {}",
-                Call::COUNT
-            )
+// How many records were compared, and how many of them differ.
+#[derive(Clone, Copy, Debug, PartialEq, Eq)]
+struct Count {
+    compared: u64,
+    differ: u64,
+}
+
+// The record at which the list cannot be read on, and why.
+#[derive(Clone, Copy, Debug, PartialEq, Eq)]
+struct Broken {
+    record: u64,
+    fault: Fault,
+}
+
+impl fmt::Display for Count {
+    fn fmt<W: fmt::Write>(&self, f: &mut fmt::Formatter<W>) -> fmt::Result {
+        let Count { compared, differ } = *self;
+        write!(f, "{compared} compared, {differ} differ")
+    }
+}
+
+impl fmt::Display for Broken {
+    fn fmt<W: fmt::Write>(&self, f: &mut fmt::Formatter<W>) -> fmt::Result {
+        let record = self.record;
+        match self.fault {
+            Fault::Cut { size, came } => {
+                write!(f, "the list ends inside record {record}; expected {size} bytes, {came} came")
+            }
+            Fault::Size(size) => {
+                write!(f, "record {record} has {size} bytes by its head; expected 32 to 65536")
+            }
+            Fault::Call(number) => {
+                let calls = Call::COUNT;
+                write!(f, "record {record} names call {number}; expected one below {calls}")
+            }
         }
     }
 }
 
-// How many records were compared and how many differ. `nth` is the record that was not replayed.
-fn tell_count(rt: &impl Print, nth: u64, differ: u64) -> io::Result<()>
-    requires { 1 ≤ nth }
-{
-    println!(rt; "{} compared, {differ} differ", nth - 1)
-}
-
 // The last lines of a list that was read to its end. Where it had no record, nothing is shown.
-fn tell_end(rt: &impl Print, nth: u64, differ: u64) -> io::Result<()>
-    requires { 1 ≤ nth }
-{
-    tell_count(rt, nth, differ)?;
-    if nth == 1 {
+fn tell_end(rt: &impl Print, count: Count) -> io::Result<()> {
+    println!(rt; "{count}")?;
+    if count.compared == 0 {
         return println!(rt;
             "not passed: the list is empty; expected a record for each of the {} calls",
             Call::COUNT
@@ -58,12 +69,10 @@ fn tell_end(rt: &impl Print, nth: u64, differ: u64) -> io::Result<()>
 }
 
 // And of one that was not.
-fn tell_broken(rt: &impl Print, nth: u64, differ: u64, fault: Fault) -> io::Result<()>
-    requires { 1 ≤ nth }
-{
-    tell_fault(rt, nth, fault)?;
-    tell_count(rt, nth, differ)?;
-    println!(rt; "not passed: the list is broken at record {nth}")
+fn tell_broken(rt: &impl Print, count: Count, broken: Broken) -> io::Result<()> {
+    println!(rt; "{broken}")?;
+    println!(rt; "{count}")?;
+    println!(rt; "not passed: the list is broken at record {}", broken.record)
 }
 
 // ---- the calls
@@ -74,16 +83,19 @@ fn run(rt: &impl Print) -> io::Result<()> {
     let mut store = [165u8; 8192];
     let mut differ: u64 = 0;
     // No list is as long as is counted up to here.
-    for nth in 1..u64::MAX {
+    for compared in 0..u64::MAX {
+        let record = compared + 1;
         match list.take() {
             Ok(Some(Record { call, answer })) => {
                 if !call.replayed(answer, &mut state, &mut store) {
-                    println!(rt; "differs: {call}, record {nth}")?;
+                    println!(rt; "differs: {call}, record {record}")?;
                     differ = differ.saturating_add(1);
                 }
             }
-            Ok(None) => return tell_end(rt, nth, differ),
-            Err(fault) => return tell_broken(rt, nth, differ, fault),
+            Ok(None) => return tell_end(rt, Count { compared, differ }),
+            Err(fault) => {
+                return tell_broken(rt, Count { compared, differ }, Broken { record, fault });
+            }
         }
     }
     Ok(())

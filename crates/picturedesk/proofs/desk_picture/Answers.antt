@@ -31,7 +31,7 @@ returns c =
     let f = frames given in
     let all = all_named a.quality a.output a.previous a.current a.next in
     let number =
-    c.number-2.ensures
+    c.told.ensures
     ∙ c.picture_of.ensures.value
     ∙ number_behind 3 named
     (λ i.
@@ -41,8 +41,8 @@ returns c =
     in record {
       value = number;
       out_after = c.picture_of.ensures.out_after
-          ∙ (λ i. asked_out (sym c.number-2.ensures i) (asked i) (frames (asked i)) a.out.now)
-          ∙ written_alike c.number-2.result a.out.now
+          ∙ (λ i. asked_out (sym c.told.ensures i) (asked i) (frames (asked i)) a.out.now)
+          ∙ written_alike c.told.result a.out.now
           (λ z.
           let same = picture_same all a.conversion f.previous f.current f.next (length a.out.now) (sym number ∙ z) in
           λ i. over (picture_whole given.quality given.output a.conversion (same.0 i) (same.1 i) (same.2 i)) a.out.now);
