@@ -31,8 +31,7 @@ struct Bench<'a, P> {
     differ: u64,
 }
 
-// The words that `{:?}` prints, as bytes that the list's are compared with: printed ones would have to be kept first, and no text is kept
-// here but a number's.
+// These words and a symbol's are what `{:?}` prints, as bytes to compare with the list's: with no heap, printed text cannot be held.
 fn cadence_word(cadence: Cadence) -> &'static [u8] {
     match cadence {
         Cadence::None => b"None",
@@ -147,21 +146,16 @@ fn after_entry_0() -> Detector
 fn after_entry_9() -> Detector
     ensures { result ≡ detector_after to_entry9 }
 {
-    [
-        (0, 40),
-        (40, 40),
-        (40, 0),
-        (40, 40),
-        (40, 40),
-        (0, 40),
-        (40, 40),
-        (40, 0),
-        (40, 40),
-    ]
-    .iter()
-    .fold(after_entry_0(), |detector, counts| {
-        entry(detector, counts.0, counts.1)
-    })
+    // One by one, since what each ensures adds one call to the theorem's list; over an array that would take an invariant of its own.
+    let detector = entry(after_entry_0(), 0, 40);
+    let detector = entry(detector, 40, 40);
+    let detector = entry(detector, 40, 0);
+    let detector = entry(detector, 40, 40);
+    let detector = entry(detector, 40, 40);
+    let detector = entry(detector, 0, 40);
+    let detector = entry(detector, 40, 40);
+    let detector = entry(detector, 40, 0);
+    entry(detector, 40, 40)
 }
 
 // So many stills after entry 9, which is a moved frame with the lock on it.
