@@ -1,13 +1,14 @@
 -- Laws of texts that are put one after another into a list.
 use Prim.Native.Nat.{ℕ, ◌+◌, ◌≤◌}
 use native.Mathlib.Nat.{add_assoc, add-zero}
-use mathlib.Core.Path.{◌≡◌, sym, ◌∙◌}
+use mathlib.Core.Path.{◌≡◌, refl, sym, ◌∙◌}
 use mathlib.Core.List.{List, [], ◌++◌, append_assoc}
 use lib.ListN.{length, take, drop, length-append, take-append-drop}
 use native.Mathlib.Omega.{arith}
 use lib.Seq.{take-append_seam, drop-append-add, drop-drop, take-append-add, length-take-le}
 use Rattle.pages.specs.Pages.{put}
-use Rattle.listing.specs.Lines.{Wrote}
+use Rattle.listing.specs.declared.Page.{Page}
+use Rattle.listing.specs.Lines.{Room, Wrote}
 
 -- ---- a text, and another behind it
 seam : (front x y back : List ℕ)
@@ -32,20 +33,20 @@ put_nothing list at = simp (add-zero, take-append-drop)
 
 -- ---- texts that were written, one behind another
 
-pub wrote_nothing : (list : List ℕ) (at : ℕ) → Wrote list at list at []
-wrote_nothing list at = record { ends = sym (add-zero at); is = put_nothing list at }
+pub wrote_nothing : (page : Page) → Wrote page page []
+wrote_nothing page = record { same_page = refl; same_length = refl; ends = sym (add-zero page.at); is = put_nothing page.out.now page.at }
 
-pub then : {old : List ℕ} {at : ℕ} {new newer : List ℕ} {m n : ℕ} {x y : List ℕ} → at ≤ length old → Wrote old at new m x → Wrote new m newer n y
-    → Wrote old at newer n (x ++ y)
-then {old} {at} {new} {newer} {m} {n} {x} {y} h v w = record {
+pub then : {old new newer : Page} {x y : List ℕ} → old.at ≤ length old.out.now → Wrote old new x → Wrote new newer y → Wrote old newer (x ++ y)
+then {old} {new} {newer} {x} {y} h v w = record {
+  same_page = w.same_page ∙ v.same_page;
+  same_length = w.same_length ∙ v.same_length;
   ends = simp (w.ends, v.ends, length-append, add_assoc);
-  is = rw (w.is, v.is, v.ends) (put_put old at x y h);
+  is = rw (w.is, v.is, v.ends) (put_put old.out.now old.at x y h);
 }
 
 -- a word, and a number of at most 20 digits behind it
-pub word_then : {old : List ℕ} {at : ℕ} {new newer : List ℕ} {m n : ℕ} {x y : List ℕ} → at + length x + 20 ≤ length old → Wrote old at new m x
-    → Wrote new m newer n y × (n ≤ m + 20)
-    → Wrote old at newer n (x ++ y) × (n ≤ at + length x + 20)
+pub word_then : {old new newer : Page} {x y : List ℕ} → Room old (length x + 20) → Wrote old new x → Wrote new newer y × (newer.at ≤ new.at + 20)
+    → Wrote old newer (x ++ y) × (newer.at ≤ old.at + length x + 20)
 word_then room v w = (then (omega arith) v w.0, omega arith)
 
 -- the parts of a line of totals
@@ -53,7 +54,7 @@ regroup : (w a x b y c z d e : List ℕ)
     → ((((w ++ a) ++ (x ++ b)) ++ (y ++ c)) ++ (z ++ d)) ++ e ≡ w ++ (a ++ (x ++ (b ++ (y ++ (c ++ (z ++ (d ++ e)))))))
 regroup w a x b y c z d e = simp append_assoc
 
-pub flat : {old : List ℕ} {at : ℕ} {new : List ℕ} {n : ℕ} (w a x b y c z d e : List ℕ)
-    → Wrote old at new n (((((w ++ a) ++ (x ++ b)) ++ (y ++ c)) ++ (z ++ d)) ++ e)
-    → Wrote old at new n (w ++ (a ++ (x ++ (b ++ (y ++ (c ++ (z ++ (d ++ e))))))))
+pub flat : {old new : Page} (w a x b y c z d e : List ℕ)
+    → Wrote old new (((((w ++ a) ++ (x ++ b)) ++ (y ++ c)) ++ (z ++ d)) ++ e)
+    → Wrote old new (w ++ (a ++ (x ++ (b ++ (y ++ (c ++ (z ++ (d ++ e))))))))
 flat w a x b y c z d e t = rw (regroup w a x b y c z d e) at t

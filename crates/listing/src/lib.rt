@@ -4,7 +4,7 @@
 
 ghost use Rattle.std.specs.Prelude.{◌≡◌, ◌++◌, ◌+◌, ◌≤◌, max, length};
 ghost use Rattle.listing.specs.Listing.{decimal_of, cadence_word, lock_end, text_of, put_line, line_ends};
-ghost use Rattle.listing.specs.Lines.{Wrote};
+ghost use Rattle.listing.specs.Lines.{Room, Wrote, WroteLine};
 ghost use Rattle.listing.specs.Steps.{reel_machine, start_lister, came_lister, program_of, ask_from, step_from};
 ghost use Rattle.pages.specs.declared.Ask.TheVariants.{Unit};
 ghost use Rattle.pages.specs.Run.{stepped_by};
@@ -33,75 +33,83 @@ fn lock_end(locked: bool) -> &'static [u8]
     if locked { b"1\n" } else { b"0\n" }
 }
 
-// Puts a text at a place, and answers where it ends. So do the next five.
-#[tactic(auto, unfolding(pages::specs::Pages::put))]
-fn add(out: &mut [u8], at: usize, text: &[u8]) -> usize
-    requires { at + length text.now ≤ length out.old }
-    ensures { Wrote out.old at out.new result text.now }
-{
-    let end = at + text.len();
-    out[at..end].copy_from_slice(text);
-    end
+// A lent buffer, and the place in it where the next text goes.
+#[derive(Drop)]
+struct Page<'a> {
+    out: &'a mut [u8],
+    at: usize,
 }
 
-#[tactic(auto, using(crate::proofs::Decimal::spelled, crate::proofs::Decimal::few))]
-fn add_number(out: &mut [u8], at: usize, n: u64) -> usize
-    requires { at + 20 ≤ length out.old }
-    ensures { Wrote out.old at out.new result (decimal_of n) × (result ≤ at + 20) }
-{
-    let mut digits = [0u8; 20];
-    let k = io::decimal(n, &mut digits);
-    add(out, at, &digits[..k])
-}
+impl Page<'_> {
+    #[tactic(auto, unfolding(pages::specs::Pages::put))]
+    fn add(&mut self, text: &[u8])
+        requires { Room self.old (length text.now) }
+        ensures { Wrote self.old self.new text.now }
+    {
+        let end = self.at + text.len();
+        self.out[self.at..end].copy_from_slice(text);
+        self.at = end;
+    }
 
-// A word, and a number.
-#[tactic(auto, using(crate::proofs::Texts::word_then))]
-fn add_part(out: &mut [u8], at: usize, word: &[u8], n: u64) -> usize
-    requires { at + length word.now + 20 ≤ length out.old }
-    ensures { Wrote out.old at out.new result (word.now ++ decimal_of n) × (result ≤ at + length word.now + 20) }
-{
-    let end = add(out, at, word);
-    add_number(out, end, n)
-}
+    // The digits have a length beside them: `io::decimal` gives them so.
+    #[tactic(auto, using(crate::proofs::Decimal::spelled, crate::proofs::Decimal::few))]
+    fn add_number(&mut self, n: u64)
+        requires { Room self.old 20 }
+        ensures { Wrote self.old self.new (decimal_of n) × (self.new.at ≤ self.old.at + 20) }
+    {
+        let mut digits = [0u8; 20];
+        let k = io::decimal(n, &mut digits);
+        self.add(&digits[..k]);
+    }
 
-fn frame_line(out: &mut [u8], at: usize, n: u64, cadence: Cadence, locked: bool) -> usize
-    requires { at + 128 ≤ length out.old }
-    ensures { Wrote out.old at out.new result (text_of (Said.Frame n cadence locked)) × (result ≤ at + 128) }
-{
-    let number = add_number(out, at, n);
-    let word = add(out, number, cadence_word(cadence));
-    add(out, word, lock_end(locked))
-}
+    // A word, and a number.
+    fn add_part(&mut self, word: &[u8], n: u64)
+        requires { Room self.old (length word.now + 20) }
+        ensures { Wrote self.old self.new (word.now ++ decimal_of n) × (self.new.at ≤ self.old.at + length word.now + 20) }
+    {
+        self.add(word);
+        self.add_number(n);
+    }
 
-fn fault_line(out: &mut [u8], at: usize, no: u8) -> usize
-    requires { at + 128 ≤ length out.old }
-    ensures { Wrote out.old at out.new result (text_of (Said.Fault no)) × (result ≤ at + 128) }
-{
-    let number = add_part(out, at, b"refused ", u64::from(no));
-    add(out, number, b"\n")
-}
+    fn frame_line(&mut self, n: u64, cadence: Cadence, locked: bool)
+        requires { Room self.old 128 }
+        ensures { WroteLine self.old self.new (Said.Frame n cadence locked) }
+    {
+        self.add_number(n);
+        self.add(cadence_word(cadence));
+        self.add(lock_end(locked));
+    }
 
-fn totals_line(out: &mut [u8], at: usize, tally: Tally) -> usize
-    requires { at + 128 ≤ length out.old }
-    ensures { Wrote out.old at out.new result (text_of (Said.Totals tally)) × (result ≤ at + 128) }
-{
-    let whole = add_part(out, at, b"whole ", tally.whole);
-    let drop = add_part(out, whole, b" drop ", tally.drop);
-    let spanning = add_part(out, drop, b" spanning ", tally.spanning);
-    let none = add_part(out, spanning, b" none ", tally.none);
-    add(out, none, b"\n")
-}
+    fn fault_line(&mut self, no: u8)
+        requires { Room self.old 128 }
+        ensures { WroteLine self.old self.new (Said.Fault no) }
+    {
+        self.add_part(b"refused ", u64::from(no));
+        self.add(b"\n");
+    }
 
-#[tactic(auto, using(crate::proofs::Texts::wrote_nothing))]
-fn line(out: &mut [u8], at: usize, said: Said) -> usize
-    requires { at + 128 ≤ length out.old }
-    ensures { Wrote out.old at out.new result (text_of said) × (result ≤ at + 128) }
-{
-    match said {
-        Said::Quiet => at,
-        Said::Frame(n, cadence, locked) => frame_line(out, at, n, cadence, locked),
-        Said::Totals(tally) => totals_line(out, at, tally),
-        Said::Fault(no) => fault_line(out, at, no),
+    fn totals_line(&mut self, tally: Tally)
+        requires { Room self.old 128 }
+        ensures { WroteLine self.old self.new (Said.Totals tally) }
+    {
+        self.add_part(b"whole ", tally.whole);
+        self.add_part(b" drop ", tally.drop);
+        self.add_part(b" spanning ", tally.spanning);
+        self.add_part(b" none ", tally.none);
+        self.add(b"\n");
+    }
+
+    #[tactic(auto, using(crate::proofs::Texts::wrote_nothing))]
+    fn line(&mut self, said: Said)
+        requires { Room self.old 128 }
+        ensures { WroteLine self.old self.new said }
+    {
+        match said {
+            Said::Quiet => {}
+            Said::Frame(n, cadence, locked) => self.frame_line(n, cadence, locked),
+            Said::Totals(tally) => self.totals_line(tally),
+            Said::Fault(no) => self.fault_line(no),
+        }
     }
 }
 
@@ -115,7 +123,9 @@ pub fn write(out: &mut [u8], at: usize, said: Said) -> usize
 {
     let room = out.len();
     if LONGEST_LINE <= room.saturating_sub(at) {
-        line(out, at, said)
+        let mut page = Page { out, at };
+        page.line(said);
+        page.at
     } else {
         at
     }
@@ -123,7 +133,8 @@ pub fn write(out: &mut [u8], at: usize, said: Said) -> usize
 
 // ---- the program, a step at a time
 
-// What the program `cadence` has between two steps, beside its buffer, its store and its page.
+// What the program `cadence` has between two steps, beside its buffer, its store and its page. Those are lent at each
+// step, since there is no heap; what is held and what is used are kept here for them.
 #[derive(Clone, Copy, Debug, PartialEq, Eq)]
 pub struct Lister {
     pub reel: Reel,
@@ -172,11 +183,15 @@ impl Lister {
     {
         let want = self.reel.want() as usize;
         let next = self.reel.next(store, self.held.unit(buffer, want));
-        let end = line(page, self.used, next.said);
+        let mut lines = Page {
+            out: page,
+            at: self.used,
+        };
+        lines.line(next.said);
         Self {
             reel: next.reel,
             held: self.held.without(want),
-            used: end,
+            used: lines.at,
             ..self
         }
     }

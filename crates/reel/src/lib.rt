@@ -27,7 +27,7 @@ pub struct Pictured {
 }
 
 // How many frames had each cadence.
-#[derive(Clone, Copy, Debug, PartialEq, Eq)]
+#[derive(Clone, Copy, Debug, Default, PartialEq, Eq)]
 pub struct Tally {
     pub whole: u64,
     pub drop: u64,
@@ -97,10 +97,7 @@ fn pictured_in(unit: &[u8]) -> Pictured
 fn picture_bytes(pictured: Option<Pictured>) -> u64
     ensures { result ≡ picture_bytes pictured }
 {
-    match pictured {
-        Some(Pictured { shape, .. }) => u64::from(shape.height) * u64::from(shape.stride),
-        None => 0,
-    }
+    pictured.map_or(0, |p| u64::from(p.shape.height) * u64::from(p.shape.stride))
 }
 
 #[tactic(auto, unfolding(laws::specs::Refusal::lowest))]
@@ -154,12 +151,7 @@ impl Reel {
             stage: Stage::ShapeCount,
             pictured: None,
             detector: Detector::new(),
-            tally: Tally {
-                whole: 0,
-                drop: 0,
-                spanning: 0,
-                none: 0,
-            },
+            tally: Tally::default(),
         }
     }
 
@@ -304,7 +296,7 @@ impl Reel {
     fn end(self, unit: &[u8]) -> Result<Next, Refusal>
         ensures { closed self result ≡ end_of self unit.now }
     {
-        Refusal::Outside.unless(unit.len() == 0)?;
+        Refusal::Outside.unless(unit.is_empty())?;
         Ok(self.close(Said::Totals(self.tally)))
     }
 
@@ -333,9 +325,7 @@ impl Reel {
     pub fn next(self, store: &mut [u8], unit: &[u8]) -> Next
         ensures { (result ≡ next_of self store.old unit.now) × (store.new ≡ store_after self store.old unit.now) }
     {
-        match self.unit(store, unit) {
-            Ok(next) => next,
-            Err(refusal) => self.close(Said::Fault(refusal.number())),
-        }
+        self.unit(store, unit)
+            .unwrap_or_else(|refusal| self.close(Said::Fault(refusal.number())))
     }
 }
