@@ -137,12 +137,6 @@ pub record Tile (place : Place) (s : Shape) (out : ℕ) : Type 0 where
   pub even_column : place.left % 2 ≡ 0
   pub room : out ≡ place.height * (s.width * 4)
 
--- places for its samples
-pub record Rooms (luma cb cr : List Float) : Type 0 where
-  pub luma_room : length luma ≡ 4096
-  pub cb_room : length cb ≡ 1024
-  pub cr_room : length cr ≡ 1024
-
 abbrev pub chroma_of : Place → Place
 chroma_of place = record { top = place.top / 2; height = half place.height; left = place.left / 2; width = half place.width }
 

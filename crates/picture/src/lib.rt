@@ -12,7 +12,7 @@ ghost use Rattle.laws.specs.Rows.{laid, over};
 ghost use Rattle.refusal.specs.Refusal.{no_of};
 ghost use Rattle.plane.specs.Plane.{half};
 ghost use Rattle.picture.specs.Picture.{good_shapes, chroma_fits, whole_frame, served, quality_for, pixel_of, frames_lent, asked_no, asked_out};
-ghost use Rattle.picture.specs.Inner.{making_of, recipe_for, lumas_in, cbs_in, crs_in, frames_in, serving_in, serving, Makeable, Paintable, Rooms, Inside, Tile, TileFits, TileMade, chroma_of, part_in, painted_row, painted_at, painted_tile};
+ghost use Rattle.picture.specs.Inner.{making_of, recipe_for, lumas_in, cbs_in, crs_in, frames_in, serving_in, serving, Makeable, Paintable, Inside, Tile, TileFits, TileMade, chroma_of, part_in, cut, painted_row, painted_at, painted_tile};
 
 use colour::{Conversion, Rgb};
 use field::{Output, Parity, Source};
@@ -51,6 +51,18 @@ struct Trio<'a> {
 
 // ---- what is judged once
 
+impl<'a> Lent<'a> {
+    // Whether no plane is shorter than its shape needs.
+    fn holds(self, p: Planes) -> bool
+        ensures { result ≡ whole_frame p (length self.entry.luma.now) (length self.entry.cb.now) (length self.entry.cr.now) }
+    {
+        (p.luma.bytes() <= self.luma.len())
+            & (p.cb.bytes() <= self.cb.len())
+            & (p.cr.bytes() <= self.cr.len())
+    }
+}
+
+// No method of `Planes`, here and below: that is another crate's, which would have to make it public.
 fn good_shapes(p: Planes) -> bool
     ensures { result ≡ good_shapes p }
 {
@@ -61,14 +73,6 @@ fn chroma_fits(p: Planes) -> bool
     ensures { result ≡ chroma_fits p }
 {
     p.luma.chroma_agrees(p.cb) & p.luma.chroma_agrees(p.cr)
-}
-
-fn whole_frame(p: Planes, lent: Lent<'_>) -> bool
-    ensures { result ≡ whole_frame p (length lent.entry.luma.now) (length lent.entry.cb.now) (length lent.entry.cr.now) }
-{
-    (p.luma.bytes() <= lent.luma.len())
-        & (p.cb.bytes() <= lent.cb.len())
-        & (p.cr.bytes() <= lent.cr.len())
 }
 
 fn bytes_of(height: u16, width: u16) -> usize
@@ -100,9 +104,7 @@ fn judge(
             & chroma_fits(asked.next),
     )?;
     Refusal::ShortInput.unless(
-        whole_frame(asked.previous, previous)
-            & whole_frame(asked.current, current)
-            & whole_frame(asked.next, next),
+        previous.holds(asked.previous) & current.holds(asked.current) & next.holds(asked.next),
     )?;
     Refusal::ShortOutput.unless(bytes_of(luma.height, luma.width) <= room)?;
     Refusal::Colour.unless(colour::good_conversion(asked.conversion))
@@ -120,19 +122,41 @@ fn put(out: &mut [u8], rgb: Rgb)
     out[3] = 255;
 }
 
-// A part of n samples.
-fn part_at(samples: &[f32], start: usize, n: usize) -> &[f32]
-    requires { start + n ≤ length samples.now }
-    ensures { (result.now ≡ take n (drop start samples.now)) × (length result.now ≡ n) }
-{
-    &samples[start..start + n]
+// Samples of luma, cb and cr, of rows laid end to end. Each row of chroma is half as wide, rounded up, and
+// serves two.
+#[derive(Clone, Copy)]
+struct Sampled<'a> {
+    luma: &'a [f32],
+    cb: &'a [f32],
+    cr: &'a [f32],
 }
 
-// One row. A chroma sample serves two columns.
-fn paint_row(out: &mut [u8], conversion: Conversion, luma: &[f32], cb: &[f32], cr: &[f32])
-    requires { (length luma.now ≤ 8192) × (length out.old ≡ length luma.now * 4) × (length cb.now ≡ half (length luma.now)) × (length cr.now ≡ half (length luma.now)) }
-    ensures { out.new ≡ painted_row conversion (length luma.now) luma.now cb.now cr.now }
+impl<'a> Sampled<'a> {
+    // Row y.
+    fn row(self, y: usize, width: usize) -> Sampled<'a>
+        requires { (y ≤ 8) × (width ≤ 512) × (y * width + width ≤ length self.luma.now) × (y / 2 * half width + half width ≤ length self.cb.now) × (y / 2 * half width + half width ≤ length self.cr.now) }
+        ensures luma { (result.luma.now ≡ cut self.entry.luma.now width y) × (length result.luma.now ≡ width) }
+        ensures cb { (result.cb.now ≡ cut self.entry.cb.now (half width) (y / 2)) × (length result.cb.now ≡ half width) }
+        ensures cr { (result.cr.now ≡ cut self.entry.cr.now (half width) (y / 2)) × (length result.cr.now ≡ half width) }
+    {
+        let at = y * width;
+        let chroma_width = width.div_ceil(2);
+        let chroma_at = y / 2 * chroma_width;
+        Sampled {
+            luma: &self.luma[at..at + width],
+            cb: &self.cb[chroma_at..chroma_at + chroma_width],
+            cr: &self.cr[chroma_at..chroma_at + chroma_width],
+        }
+    }
+}
+
+// One row. A chroma sample serves two columns. By number, since a column's pixel is four bytes at a number
+// and of what `chunks_mut` hands out a proof knows nothing.
+fn paint_row(out: &mut [u8], conversion: Conversion, row: Sampled)
+    requires { (length row.luma.now ≤ 8192) × (length out.old ≡ length row.luma.now * 4) × (length row.cb.now ≡ half (length row.luma.now)) × (length row.cr.now ≡ half (length row.luma.now)) }
+    ensures { out.new ≡ painted_row conversion (length row.entry.luma.now) row.entry.luma.now row.entry.cb.now row.entry.cr.now }
 {
+    let Sampled { luma, cb, cr } = row;
     for x in 0..luma.len() {
         let rgb = colour::converted(conversion, luma[x], cb[x / 2], cr[x / 2]);
         let at = x * 4;
@@ -140,35 +164,19 @@ fn paint_row(out: &mut [u8], conversion: Conversion, luma: &[f32], cb: &[f32], c
     }
 }
 
-// The rows of a tile, each from its own part of the samples. A row of chroma serves two. In `out` the rows
-// of the picture stand `stride` bytes apart, and the tile's are the `place.height` first.
-fn paint_rows(
-    out: &mut [u8],
-    conversion: Conversion,
-    stride: usize,
-    place: Place,
-    luma: &[f32],
-    cb: &[f32],
-    cr: &[f32],
-)
+// The rows of a tile. In `out` the rows of the picture stand `stride` bytes apart, and the tile's are the
+// `place.height` first. By number for the same reason as in a row.
+fn paint_rows(out: &mut [u8], conversion: Conversion, stride: usize, place: Place, samples: Sampled)
     requires tile_fits { TileFits place stride (length out.old) }
-    requires tile_made { TileMade place (length luma.now) (length cb.now) (length cr.now) }
-    ensures { painted_tile place stride (painted_at conversion place.width luma.now cb.now cr.now) out.old out.new place.height }
+    requires tile_made { TileMade place (length samples.luma.now) (length samples.cb.now) (length samples.cr.now) }
+    ensures { painted_tile place stride (painted_at conversion place.width samples.entry.luma.now samples.entry.cb.now samples.entry.cr.now) out.old out.new place.height }
 {
     let width = usize::from(place.width);
     let left = usize::from(place.left) * 4;
     let span = width * 4;
-    let chroma_width = width.div_ceil(2);
     for y in 0..usize::from(place.height) {
         let at = y * stride + left;
-        let chroma_at = y / 2 * chroma_width;
-        paint_row(
-            &mut out[at..at + span],
-            conversion,
-            part_at(luma, y * width, width),
-            part_at(cb, chroma_at, chroma_width),
-            part_at(cr, chroma_at, chroma_width),
-        );
+        paint_row(&mut out[at..at + span], conversion, samples.row(y, width));
     }
 }
 
@@ -216,44 +224,35 @@ struct Job<'a> {
 impl<'a> Job<'a> {
     ghost use Rattle.picture.specs.Jobs.{row_of, picture_in, PaintedTo, PaintedWith};
 
-    // A tile, with places for its samples.
-    fn paint_with(
-        self,
-        out: &mut [u8],
-        place: Place,
-        luma: &mut [f32],
-        cb: &mut [f32],
-        cr: &mut [f32],
-    )
-        requires tile { Tile place self.recipe.luma.cur (length out.old) }
-        requires painted_to { PaintedTo self place out.old }
-        requires rooms { Rooms luma.old cb.old cr.old }
-        ensures { PaintedWith self.entry place out.new }
-    {
-        let Recipe {
-            luma: of_luma,
-            cb: of_cb,
-            cr: of_cr,
-            conversion,
-        } = self.recipe;
-        let Trio { before, cur, after } = self.trio;
-        let chroma = chroma_of(place);
-        samples(luma, of_luma, before.luma, cur.luma, after.luma, place);
-        samples(cb, of_cb, before.cb, cur.cb, after.cb, chroma);
-        samples(cr, of_cr, before.cr, cur.cr, after.cr, chroma);
-        let stride = usize::from(of_luma.cur.width) * 4;
-        paint_rows(out, conversion, stride, place, luma, cb, cr);
-    }
-
+    // A tile. Each sample is made once, and then serves.
     fn paint_tile(self, out: &mut [u8], place: Place)
         requires tile { Tile place self.recipe.luma.cur (length out.old) }
         requires painted_to { PaintedTo self place out.old }
         ensures { PaintedWith self.entry place out.new }
     {
+        let recipe = self.recipe;
+        let Trio { before, cur, after } = self.trio;
+        let chroma = chroma_of(place);
         let mut luma = [0.0f32; 4096];
         let mut cb = [0.0f32; 1024];
         let mut cr = [0.0f32; 1024];
-        self.paint_with(out, place, &mut luma, &mut cb, &mut cr);
+        samples(
+            &mut luma,
+            recipe.luma,
+            before.luma,
+            cur.luma,
+            after.luma,
+            place,
+        );
+        samples(&mut cb, recipe.cb, before.cb, cur.cb, after.cb, chroma);
+        samples(&mut cr, recipe.cr, before.cr, cur.cr, after.cr, chroma);
+        let stride = usize::from(recipe.luma.cur.width) * 4;
+        let made = Sampled {
+            luma: &luma,
+            cb: &cb,
+            cr: &cr,
+        };
+        paint_rows(out, recipe.conversion, stride, place, made);
     }
 
     // `count` rows from an even row on.

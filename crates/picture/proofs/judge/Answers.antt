@@ -23,7 +23,7 @@ returns c =
     sym (λ i. c.agrees.ensures i && c.agrees-2.ensures i && c.chroma_fits.ensures i && c.chroma_fits-2.ensures i && c.chroma_fits-3.ensures i)
     ∙ c.in_ok-unless-2.ensures in
     let whole : (lent f.previous && lent f.current && lent f.next) ≡ true =
-    sym (λ i. c.whole_frame.ensures i && c.whole_frame-2.ensures i && c.whole_frame-3.ensures i) ∙ c.in_ok-unless-3.ensures in
+    sym (λ i. c.holds.ensures i && c.holds-2.ensures i && c.holds-3.ensures i) ∙ c.in_ok-unless-3.ensures in
     let room : leb (asked.current.luma.height * (asked.current.luma.width * 4)) a.room ≡ true =
     sym (λ i. leb (c.bytes_of.ensures i) a.room) ∙ c.in_ok-unless-4.ensures in
     let last : no_of c.unless-5.result ≡ cond (good_conversion asked.conversion) 0 8 =

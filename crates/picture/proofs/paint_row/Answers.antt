@@ -21,5 +21,5 @@ pub returns : goal.returns
 unfolding painted_row
 returns c =
     let a = c.args in
-    let whole = length_laid (pixel a.conversion a.luma.now a.cb.now a.cr.now) 4 (λ x. refl) (length a.luma.now) in
+    let whole = length_laid (pixel a.conversion a.row.luma.now a.row.cb.now a.row.cr.now) 4 (λ x. refl) (length a.row.luma.now) in
     stack_ends (λ x. refl) c.loop-x.invariant (omega arith) ∙ over_all _ a.out.now (c.requires.1 ∙ sym whole)

@@ -8,7 +8,7 @@ use Rattle.fill.specs.declared.Place.{Place}
 use Rattle.picture.specs.Inner.{Serving, lumas_in, cbs_in, crs_in, part_in, painted_at, painted_tile}
 use Rattle.picture.proofs.Painted.{tile_places}
 use Rattle.picture.proofs.Tiles.{tile_more}
-use Rattle.picture.proofs.Job.paint_with.Goals as goal
+use Rattle.picture.proofs.Job.paint_tile.Goals as goal
 
 -- the samples of a tile, and those of its chroma
 luma_area : (height width : ℕ) → height ≤ 8 → width ≤ 512 → height * width ≤ 4096
@@ -22,16 +22,16 @@ chroma_area height width few narrow =
 pub samples-requires-clause-inside : goal.samples-requires-clause-inside
 samples-requires-clause-inside c =
     let t = c.requires.tile in
-    (t.inside, omega (arith, luma_area c.args.place.height c.args.place.width t.few_rows t.few_columns, c.requires.rooms.luma_room))
+    (t.inside, luma_area c.args.place.height c.args.place.width t.few_rows t.few_columns)
 
 pub paint_rows-requires-clause-tile_made : goal.paint_rows-requires-clause-tile_made
 paint_rows-requires-clause-tile_made c =
     let t = c.requires.tile in
     let p = c.args.place in
     let chroma = chroma_area p.height p.width t.few_rows t.few_columns in record {
-      luma_made = omega (arith, luma_area p.height p.width t.few_rows t.few_columns, c.samples.auto.out, c.requires.rooms.luma_room);
-      cb_made = omega (arith, chroma, c.samples-2.auto.out, c.requires.rooms.cb_room);
-      cr_made = omega (arith, chroma, c.samples-3.auto.out, c.requires.rooms.cr_room);
+      luma_made = omega (arith, luma_area p.height p.width t.few_rows t.few_columns, c.samples.auto.out);
+      cb_made = omega (arith, chroma, c.samples-2.auto.out);
+      cr_made = omega (arith, chroma, c.samples-3.auto.out);
     }
 
 pub returns : goal.returns
@@ -44,8 +44,8 @@ returns c =
     let chroma = c.chroma_of-chroma.ensures in
     let painted = subst (λ (w : ℕ). painted_tile a.place (w * 4) (painted_at a.self.recipe.conversion a.place.width c.samples.new.out c.samples-2.new.out c.samples-3.new.out) a.out.now c.paint_rows.new.out a.place.height) c.from-stride.ensures c.paint_rows.ensures in
     tile_more c.requires.painted_to painted
-    (tile_places a.self.recipe lumas cbs crs a.place _ _ _ a.luma.now a.cb.now a.cr.now t.even_row t.even_column
+    (tile_places a.self.recipe lumas cbs crs a.place _ _ _ _ _ _ t.even_row t.even_column
     c.samples.ensures
-    (c.samples-2.ensures ∙ ap (λ (p : Place). over (part_in a.self.recipe.cb cbs p) a.cb.now) chroma)
-    (c.samples-3.ensures ∙ ap (λ (p : Place). over (part_in a.self.recipe.cr crs p) a.cr.now) chroma)
+    (c.samples-2.ensures ∙ ap (λ (p : Place). over (part_in a.self.recipe.cb cbs p) _) chroma)
+    (c.samples-3.ensures ∙ ap (λ (p : Place). over (part_in a.self.recipe.cr crs p) _) chroma)
     t.inside.columns)
