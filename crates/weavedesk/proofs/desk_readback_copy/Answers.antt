@@ -27,7 +27,7 @@ returns c =
     ∙ readback_number a.about luma second third behind in
     let same : r ≡ 0 → c.readback_cut.result ≡ readback_named a.about =
     λ z. about ∙ readback_same a.about luma second third behind (sym number ∙ z) in
-    rw c.number.ensures
+    rw c.told.ensures
     record {
       value = number;
       out_luma_after =

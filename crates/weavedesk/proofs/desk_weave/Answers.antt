@@ -28,7 +28,7 @@ returns c =
     (length a.out_luma.now) (length a.out_cb.now) (length a.out_cr.now) in
     let upper : r ≡ 0 → c.field_cut.result ≡ field_named a.top = λ z. top ∙ (same (sym number ∙ z)).0 in
     let lower : r ≡ 0 → c.field_cut-2.result ≡ field_named a.bottom = λ z. bottom ∙ (same (sym number ∙ z)).1 in
-    rw c.number.ensures
+    rw c.told.ensures
     record {
       value = number;
       out_luma_after =
