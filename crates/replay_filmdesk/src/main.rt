@@ -43,14 +43,23 @@ impl fmt::Display for Broken {
         let record = self.record;
         match self.fault {
             Fault::Cut { size, came } => {
-                write!(f, "the list ends inside record {record}; expected {size} bytes, {came} came")
+                write!(
+                    f,
+                    "the list ends inside record {record}; expected {size} bytes, {came} came"
+                )
             }
             Fault::Size(size) => {
-                write!(f, "record {record} has {size} bytes by its head; expected 32 to 65536")
+                write!(
+                    f,
+                    "record {record} has {size} bytes by its head; expected 32 to 65536"
+                )
             }
             Fault::Call(number) => {
                 let calls = Call::COUNT;
-                write!(f, "record {record} names call {number}; expected one below {calls}")
+                write!(
+                    f,
+                    "record {record} names call {number}; expected one below {calls}"
+                )
             }
         }
     }
@@ -72,7 +81,10 @@ fn tell_end(rt: &impl Print, count: Count) -> io::Result<()> {
 fn tell_broken(rt: &impl Print, count: Count, broken: Broken) -> io::Result<()> {
     println!(rt; "{broken}")?;
     println!(rt; "{count}")?;
-    println!(rt; "not passed: the list is broken at record {}", broken.record)
+    println!(rt;
+        "not passed: the list is broken at record {}",
+        broken.record
+    )
 }
 
 // ---- the calls
