@@ -150,8 +150,8 @@ impl<'a> Sampled<'a> {
     }
 }
 
-// One row. A chroma sample serves two columns. By number, since a column's pixel is four bytes at a number
-// and of what `chunks_mut` hands out a proof knows nothing.
+// One row. A chroma sample serves two columns. By number, since a proof does not know what stands in a slice
+// once its `chunks_mut` are let go.
 fn paint_row(out: &mut [u8], conversion: Conversion, row: Sampled)
     requires { (length row.luma.now ≤ 8192) × (length out.old ≡ length row.luma.now * 4) × (length row.cb.now ≡ half (length row.luma.now)) × (length row.cr.now ≡ half (length row.luma.now)) }
     ensures { out.new ≡ painted_row conversion (length row.entry.luma.now) row.entry.luma.now row.entry.cb.now row.entry.cr.now }
@@ -165,7 +165,7 @@ fn paint_row(out: &mut [u8], conversion: Conversion, row: Sampled)
 }
 
 // The rows of a tile. In `out` the rows of the picture stand `stride` bytes apart, and the tile's are the
-// `place.height` first. By number for the same reason as in a row.
+// `place.height` first. By number, as in a row.
 fn paint_rows(out: &mut [u8], conversion: Conversion, stride: usize, place: Place, samples: Sampled)
     requires tile_fits { TileFits place stride (length out.old) }
     requires tile_made { TileMade place (length samples.luma.now) (length samples.cb.now) (length samples.cr.now) }
