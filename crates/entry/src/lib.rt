@@ -15,7 +15,11 @@ use field::Parity;
 use refusal::Refusal;
 use telecine::Measured;
 
-// The numbers of an entry as they stand in the file, which may be others than an entry's; `good` says.
+// So many bytes has an entry.
+const ENTRY_BYTES: usize = 12;
+
+// The numbers of an entry as they stand in the file, which may be others than an entry's; `good` says. Parity and
+// present are numbers here, no Parity and no bool: `entry_of` and `good_entry` hold of any two.
 #[derive(Clone, Copy, Debug, PartialEq, Eq)]
 pub struct Entry {
     pub parity: u16,
@@ -33,7 +37,8 @@ fn byte_at(bytes: &[u8], i: usize) -> u16
     }
 }
 
-// The number at a place of a unit: 16 bits, low byte first. A byte past the end counts as 0.
+// The number at a place of a unit: 16 bits, low byte first. A byte past the end counts as 0, which
+// no from_le_bytes gives.
 pub fn word_at(bytes: &[u8], i: u8) -> u16
     ensures { result ≡ word_at bytes.now i }
 {
@@ -88,7 +93,7 @@ impl Entry {
     }
 }
 
-// ---- entries one after another
+// ---- entries one after another, each by its number: so the clauses have it (`entry_at`, `every_below`, `listed`)
 
 // Where the part's length is known, `entry_of` tests nothing at run time.
 #[tactic(auto, using(crate::proofs::Entries::entry_there))]
@@ -96,8 +101,8 @@ fn entry_at(entries: &[u8], k: usize) -> Entry
     requires { 12 * k + 12 ≤ length entries.now }
     ensures { result ≡ entry_at entries.now k }
 {
-    let at = 12 * k;
-    entry_of(&entries[at..at + 12])
+    let at = ENTRY_BYTES * k;
+    entry_of(&entries[at..at + ENTRY_BYTES])
 }
 
 // Whether each of n entries names what it must.
@@ -118,14 +123,15 @@ fn all_good(entries: &[u8], n: usize) -> bool
 fn judge(entries: &[u8], room: usize) -> Result<(), Refusal>
     ensures { no_of result ≡ cadences_no entries.now room }
 {
-    let n = entries.len() / 12;
+    let n = entries.len() / ENTRY_BYTES;
     Refusal::Outside.unless(all_good(entries, n))?;
-    Refusal::ShortInput.unless(entries.len() % 12 == 0)?;
+    Refusal::ShortInput.unless(entries.len() % ENTRY_BYTES == 0)?;
     Refusal::ShortOutput.unless(n <= room)?;
-    Refusal::TooManyFrames.unless(n <= 4000000000)
+    Refusal::TooManyFrames.unless(n as u64 <= pulldown::MOST_FRAMES)
 }
 
-// What is seen of each of n entries that were judged, as a code.
+// What is seen of each of n entries that were judged, as a code. Codes are numbers from 0 to 4 that are written in
+// place, where C reads the cadences afterwards.
 #[tactic(auto, using(laws::proofs::Rows::over_none, laws::proofs::Rows::over_more, crate::proofs::Entries::code_given, crate::proofs::Entries::last_left), unfolding(crate::specs::Entry::earlier_than))]
 fn write_codes(out: &mut [u8], entries: &[u8], n: usize)
     requires { EntriesReady n (length entries.now) (length out.old) }
@@ -152,13 +158,13 @@ fn write_cadences(out: &mut [u8], entries: &[u8], n: usize) -> Result<(), Refusa
     pulldown::cadences_of(&mut out[..n])
 }
 
-// The cadence of each entry, from a fresh detector: 0 None, 1 Whole, 2 Drop, 3 Spanning. Numbers 3, 6,
-// 7 and 9.
+// The cadence of each entry, from a fresh detector: 0 None, 1 Whole, 2 Drop, 3 Spanning. Refused with
+// 3, 6, 7 and 9.
 #[tactic(auto, using(laws::proofs::Refusal::written_done, laws::proofs::Refusal::stays, crate::proofs::Judged::passed))]
 pub fn cadences(out: &mut [u8], entries: &[u8]) -> Result<(), Refusal>
     ensures value { no_of result ≡ cadences_no entries.now (length out.old) }
     ensures out_after { out.new ≡ written (no_of result) (over (cadences_of entries.now) out.old) out.old }
 {
     judge(entries, out.len())?;
-    write_cadences(out, entries, entries.len() / 12)
+    write_cadences(out, entries, entries.len() / ENTRY_BYTES)
 }
