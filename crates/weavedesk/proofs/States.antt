@@ -21,18 +21,15 @@ use Rattle.packed.specs.Packed.{number_at}
 use Rattle.packed.proofs.Claims.{reads_back}
 use Rattle.weave.specs.Weave.{good_lines}
 use Rattle.weave.proofs.Judged.{each_of_three}
+use Rattle.weaver.specs.declared.Waiting.{Waiting}
 use Rattle.weaver.specs.declared.Weaver.{Weaver}
 use Rattle.weaver.specs.Weaver.{empty_weaver, waiting_for, fits}
-use Rattle.weavedesk.specs.Woven.{flag_named, flag_number, field_named}
-use Rattle.weavedesk.specs.Waiting.{whole_size, time_kind, time_size, time_of, weaver_numbers, weaver_in, keeping}
+use Rattle.weavedesk.specs.Woven.{flag_named, field_named}
+use Rattle.weavedesk.specs.Waiting.{whole_size, time_kind, time_size, time_of, weaver_numbers, waiting_in, weaver_in, keeping}
 use Rattle.weavedesk.specs.Push.{weaver_of, parity_in, time_in, push_tests}
 use Rattle.weavedesk.specs.Claims.{Sized, FoundAgain, AlwaysSized, PushSized}
 
 -- ---- what a number stands for is read back
-held_back : (b : Bool) → flag_named (flag_number b) ≡ b
-held_back true = refl
-held_back false = refl
-
 parity_back : (p : Parity) → parity_named (first_row_of p) ≡ p
 parity_back parity.Top = refl
 parity_back parity.Bottom = refl
@@ -41,10 +38,6 @@ time_back : (t : Option ℤ) → time_size t < 2 ^ 63 → time_of (time_kind t) 
 time_back None h = refl
 time_back (Some (pos n)) h = ap (λ (k : ℕ). Some (pos k)) (mod-eq_of_lt h)
 time_back (Some (negsuc n)) h = ap (λ (k : ℕ). Some (negsuc k)) (mod-eq_of_lt h)
-
-held_small : (b : Bool) → flag_number b < 2 ^ 64
-held_small true = lit< tt
-held_small false = lit< tt
 
 parity_small : (p : Parity) → first_row_of p < 2 ^ 64
 parity_small parity.Top = lit< tt
@@ -56,26 +49,40 @@ kind_small (Some (pos n)) = lit< tt
 kind_small (Some (negsuc n)) = lit< tt
 
 -- ---- a weaver that was written is found again
-module _ (w : Weaver) (bytes : List ℕ) (s : Sized w) where
+module _ (w : Weaver) (bytes : List ℕ) where
   number_at_lem : (k : ℕ) → k < 7 → get_or (weaver_numbers w) k 0 < 2 ^ 64 → number_at (keeping w bytes) k ≡ get_or (weaver_numbers w) k 0
   number_at_lem k l small = reads_back (weaver_numbers w) bytes k l small
 
-  found : weaver_in (keeping w bytes) ≡ w
-  unfolding weaver_in
-  found =
-      let kind = number_at_lem 5 (lit< tt) (kind_small w.time) in
-      let size = number_at_lem 6 (lit< tt) (lt_trans s.time (lit< tt)) in
+module _ (field : Waiting) (bytes : List ℕ) (s : Sized (record { waiting = Some field })) where
+  abbrev with_field : Weaver
+  with_field = record { waiting = Some field }
+
+  field_found : waiting_in (keeping with_field bytes) ≡ field
+  unfolding waiting_in
+  field_found =
+      let kind = number_at_lem with_field bytes 5 (lit< tt) (kind_small field.time) in
+      let size = number_at_lem with_field bytes 6 (lit< tt) (lt_trans s.time (lit< tt)) in
       λ i. record {
-        held = (ap flag_named (number_at_lem 0 (lit< tt) (held_small w.held)) ∙ held_back w.held) i;
-        width = (ap (λ (n : ℕ). n % 65536) (number_at_lem 1 (lit< tt) (lt_trans s.width (lit< tt))) ∙ mod-eq_of_lt s.width) i;
-        height = (ap (λ (n : ℕ). n % 65536) (number_at_lem 2 (lit< tt) (lt_trans s.height (lit< tt))) ∙ mod-eq_of_lt s.height) i;
-        depth = (ap (λ (n : ℕ). n % 256) (number_at_lem 3 (lit< tt) (lt_trans s.depth (lit< tt))) ∙ mod-eq_of_lt s.depth) i;
-        parity = (ap parity_named (number_at_lem 4 (lit< tt) (parity_small w.parity)) ∙ parity_back w.parity) i;
-        time = ((λ j. time_of (kind j) (size j)) ∙ time_back w.time s.time) i;
+        width = (ap (λ (n : ℕ). n % 65536) (number_at_lem with_field bytes 1 (lit< tt) (lt_trans s.width (lit< tt))) ∙ mod-eq_of_lt s.width) i;
+        height = (ap (λ (n : ℕ). n % 65536) (number_at_lem with_field bytes 2 (lit< tt) (lt_trans s.height (lit< tt))) ∙ mod-eq_of_lt s.height) i;
+        depth = (ap (λ (n : ℕ). n % 256) (number_at_lem with_field bytes 3 (lit< tt) (lt_trans s.depth (lit< tt))) ∙ mod-eq_of_lt s.depth) i;
+        parity = (ap parity_named (number_at_lem with_field bytes 4 (lit< tt) (parity_small field.parity)) ∙ parity_back field.parity) i;
+        time = ((λ j. time_of (kind j) (size j)) ∙ time_back field.time s.time) i;
       }
 
+found : (waiting : Option Waiting) (bytes : List ℕ) → Sized (record { waiting = waiting })
+    → weaver_in (keeping (record { waiting = waiting }) bytes) ≡ record { waiting = waiting }
+unfolding weaver_in
+found None bytes s =
+    let empty : Weaver = record { waiting = None } in
+    let first : number_at (keeping empty bytes) 0 ≡ 0 = number_at_lem empty bytes 0 (lit< tt) (lit< tt) in
+    λ i. record { waiting = cond (flag_named (first i)) (Some (waiting_in (keeping empty bytes))) None }
+found (Some field) bytes s =
+    let first : number_at (keeping (with_field field bytes s) bytes) 0 ≡ 1 = number_at_lem (with_field field bytes s) bytes 0 (lit< tt) (lit< tt) in
+    λ i. record { waiting = cond (flag_named (first i)) (Some (field_found field bytes s i)) None }
+
 pub found_again : FoundAgain
-found_again = found
+found_again w bytes s = found w.waiting bytes s
 
 -- ---- what bytes hold, and what a push leaves, has the sizes of its places
 either_size : (b : Bool) (x y : Option ℤ) → time_size x < 2 ^ 63 → time_size y < 2 ^ 63 → time_size (cond b x y) < 2 ^ 63
@@ -95,17 +102,25 @@ time_sized kind size =
     either_size (eqb kind 0) None (Some (cond (eqb kind 1) (pos (size % 2 ^ 63)) (negsuc (size % 2 ^ 63)))) (lit< tt)
     (either_whole (eqb kind 1) (pos (size % 2 ^ 63)) (negsuc (size % 2 ^ 63)) (mod-lt size (lit< tt)) (mod-lt size (lit< tt)))
 
-pub always_sized : AlwaysSized
-unfolding weaver_in
-always_sized bytes = record {
+pub empty_sized : Sized empty_weaver
+empty_sized = record { width = lit< tt; height = lit< tt; depth = lit< tt; time = lit< tt }
+
+field_sized : (bytes : List ℕ) → Sized (record { waiting = Some (waiting_in bytes) })
+unfolding waiting_in
+field_sized bytes = record {
   width = mod-lt (number_at bytes 1) (lit< tt);
   height = mod-lt (number_at bytes 2) (lit< tt);
   depth = mod-lt (number_at bytes 3) (lit< tt);
   time = time_sized (number_at bytes 5) (number_at bytes 6);
 }
 
-pub empty_sized : Sized empty_weaver
-empty_sized = record { width = lit< tt; height = lit< tt; depth = lit< tt; time = lit< tt }
+pub always_sized : AlwaysSized
+unfolding weaver_in
+always_sized bytes = either (flag_named (number_at bytes 0))
+  where
+    either : (b : Bool) → Sized (record { waiting = cond b (Some (waiting_in bytes)) None })
+    either true = field_sized bytes
+    either false = empty_sized
 
 below : {n most : ℕ} (limit : ℕ) → n ≤ most → T (ltb most limit) → n < limit
 below {n} {most} limit h t = omega (arith, ltb→lt most limit t)

@@ -6,7 +6,7 @@ use Rattle.numbers.specs.declared.GridNumbers.{GridNumbers}
 use Rattle.numbers.specs.Numbers.{grid_named}
 use Rattle.weave.specs.Weave.{given_of, weave_tests, line_tests}
 use Rattle.weaver.specs.declared.Weaver.{Weaver}
-use Rattle.weaver.specs.Weaver.{woven_by}
+use Rattle.weaver.specs.Weaver.{kept_of, woven_by}
 use Rattle.weaver.specs.History.{Sent, Waiting, none, waits, mate_of, waiting_after, refusal_tests, taken}
 use Rattle.readback.specs.declared.Sizes.{Sizes}
 use Rattle.readback.specs.Readback.{sizes_tests, readback_tests}
@@ -116,10 +116,10 @@ OneFrame =
 
 -- a weaver whose numbers have the sizes of their places, as every weaver of the code has
 pub record Sized (w : Weaver) : Type 0 where
-  pub width : w.width < 65536
-  pub height : w.height < 65536
-  pub depth : w.depth < 256
-  pub time : time_size w.time < 2 ^ 63
+  pub width : (kept_of w).width < 65536
+  pub height : (kept_of w).height < 65536
+  pub depth : (kept_of w).depth < 256
+  pub time : time_size (kept_of w).time < 2 ^ 63
 
 -- What one call leaves in the state, the next one finds there.
 abbrev pub FoundAgain : Type 0

@@ -4,7 +4,9 @@ use Rattle.std.specs.Prelude.{ℕ, ◌%◌, ◌^◌, cond, List, [], ◌∷◌, 
 use Rattle.laws.specs.Rows.{over}
 use Rattle.field.specs.Field.{first_row_of, parity_named}
 use Rattle.packed.specs.Packed.{packed_of, number_at}
+use Rattle.weaver.specs.declared.Waiting.{Waiting}
 use Rattle.weaver.specs.declared.Weaver.{Weaver}
+use Rattle.weaver.specs.Weaver.{held, kept_of}
 use Rattle.weavedesk.specs.Woven.{flag_named, flag_number}
 
 -- the bytes that a state needs
@@ -35,20 +37,24 @@ time_of kind size = cond (eqb kind 0) None (Some (cond (eqb kind 1) (pos (size %
 
 -- ---- the state
 
+-- of a weaver with no field 0 each
 abbrev pub weaver_numbers : Weaver → List ℕ
 weaver_numbers w =
-    flag_number w.held ∷ w.width ∷ w.height ∷ w.depth ∷ first_row_of w.parity ∷ time_kind w.time ∷ time_size w.time ∷ []
+    let kept = kept_of w in
+    flag_number (held w) ∷ kept.width ∷ kept.height ∷ kept.depth ∷ first_row_of kept.parity ∷ time_kind kept.time ∷ time_size kept.time ∷ []
 
--- The weaver that bytes hold. A number too large for its place is cut to the place's size.
-unfoldable pub weaver_in : List ℕ → Weaver
-weaver_in bytes = record {
-  held = flag_named (number_at bytes 0);
+-- The field and the weaver that bytes hold. A number too large for its place is cut to the place's size.
+unfoldable pub waiting_in : List ℕ → Waiting
+waiting_in bytes = record {
   width = number_at bytes 1 % 65536;
   height = number_at bytes 2 % 65536;
   depth = number_at bytes 3 % 256;
   parity = parity_named (number_at bytes 4);
   time = time_of (number_at bytes 5) (number_at bytes 6);
 }
+
+unfoldable pub weaver_in : List ℕ → Weaver
+weaver_in bytes = record { waiting = cond (flag_named (number_at bytes 0)) (Some (waiting_in bytes)) None }
 
 -- bytes with a weaver written at their front
 abbrev pub keeping : Weaver → List ℕ → List ℕ

@@ -13,7 +13,7 @@ ghost use Rattle.readback.specs.Readback.{luma_shape, cb_shape, cr_shape, cr_byt
 ghost use Rattle.weaver.specs.Weaver.{times_of};
 ghost use Rattle.refusal.specs.Refusal.{no_of};
 ghost use Rattle.weavedesk.specs.Woven.{field_named, line_out_no, line_after, format_named, format_numbers, readback_named};
-ghost use Rattle.weavedesk.specs.Waiting.{keeping, weaver_in, weaver_numbers, time_of, whole_kind, whole_size, time_kind, time_size};
+ghost use Rattle.weavedesk.specs.Waiting.{keeping, waiting_in, weaver_in, weaver_numbers, time_of, whole_kind, whole_size, time_kind, time_size};
 ghost use Rattle.weavedesk.specs.Push.{lent, offer, new_no, clear_no, emptied, time_named, push_no, state_after, store_after, luma_after, cb_after, cr_after, picture_number, timed_number, time_number, picture_after, timed_after, time_after};
 ghost use Rattle.weavedesk.specs.Inner.{field_cut, readback_cut, first_tests};
 
@@ -22,7 +22,7 @@ use numbers::GridNumbers;
 use readback::Readback;
 use refusal::Refusal;
 use weave::{Field, Format};
-use weaver::{Paired, Weaver};
+use weaver::{Paired, Waiting, Weaver};
 
 // The three planes of a field, which has at most 2,176 lines.
 #[repr(C)]
@@ -138,16 +138,27 @@ fn time_in(kind: u64, size: u64) -> Option<i64>
 }
 
 // Of a parity 0 is top, and every other number bottom, so that all bytes are some weaver.
-fn weaver_in(state: &[u8]) -> Weaver
-    ensures { result ≡ weaver_in state.now }
+#[tactic(auto, unfolding(crate::specs::Waiting::waiting_in))]
+fn waiting_in(state: &[u8]) -> Waiting
+    ensures { result ≡ waiting_in state.now }
 {
-    Weaver {
-        held: packed::number_at(state, 0) != 0,
+    Waiting {
         width: packed::size_in(packed::number_at(state, 1)),
         height: packed::size_in(packed::number_at(state, 2)),
         depth: packed::byte_in(packed::number_at(state, 3)),
         parity: Parity::named(packed::number_at(state, 4)),
         time: time_in(packed::number_at(state, 5), packed::number_at(state, 6)),
+    }
+}
+
+// A field waits where the first number is not 0.
+#[tactic(auto, unfolding(crate::specs::Waiting::weaver_in))]
+fn weaver_in(state: &[u8]) -> Weaver
+    ensures { result ≡ weaver_in state.now }
+{
+    let held = packed::number_at(state, 0) != 0;
+    Weaver {
+        waiting: held.then_some(waiting_in(state)),
     }
 }
 
@@ -188,15 +199,18 @@ fn time_size(time: Option<i64>) -> u64
 fn numbers_of(weaver: Weaver) -> [u64; 7]
     ensures { result ≡ weaver_numbers weaver }
 {
-    [
-        u64::from(weaver.held),
-        u64::from(weaver.width),
-        u64::from(weaver.height),
-        u64::from(weaver.depth),
-        u64::from(weaver.parity.first_row()),
-        time_kind(weaver.time),
-        time_size(weaver.time),
-    ]
+    match weaver.waiting {
+        None => [0; 7],
+        Some(kept) => [
+            1,
+            u64::from(kept.width),
+            u64::from(kept.height),
+            u64::from(kept.depth),
+            u64::from(kept.parity.first_row()),
+            time_kind(kept.time),
+            time_size(kept.time),
+        ],
+    }
 }
 
 // Writes a weaver to a state that is long enough, which is therefore not refused.

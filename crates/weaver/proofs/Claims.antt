@@ -19,7 +19,7 @@ use Rattle.refusal.proofs.Claims.{one_answered}
 use Rattle.weaver.specs.declared.Weaver.{Weaver}
 use Rattle.weaver.specs.declared.Paired.{Paired}
 use Rattle.weaver.specs.declared.Paired.TheVariants as paired
-use Rattle.weaver.specs.Weaver.{kept_field, woven_by, opposite, fits, push_tests, times_of, picture_luma, picture_cb, picture_cr, push_out}
+use Rattle.weaver.specs.Weaver.{kept_of, kept_field, woven_by, opposite, fits, push_tests, times_of, picture_luma, picture_cb, picture_cr, push_out}
 use Rattle.weaver.specs.History.{Sent, State, number_in, after, Waiting, none, waits, mates, mate_of, waiting_after, taken}
 use Rattle.weaver.specs.Claims.{PushSays, OnePaired, RefusedLeaves, RefusalKnown, NoPicture, Picture, Gives, PairsWoven}
 use Rattle.weaver.proofs.Packed.{Sound}
@@ -75,7 +75,7 @@ no_picture state f e z =
     let w = state.weaver in
     let g = f.field in
     record {
-      times = λ i. cond (e i) (w.time ∷ []) [];
+      times = λ i. cond (e i) ((kept_of w).time ∷ []) [];
       luma = λ out. stays (number_in state f) w g.shape f.parity (picture_luma w state.store g) out z e;
       cb = λ out. stays (number_in state f) w g.shape f.parity (picture_cb w state.store g) out z e;
       cr = λ out. stays (number_in state f) w g.shape f.parity (picture_cr w state.store g) out z e;
@@ -103,8 +103,8 @@ module _ (room : ℕ) (state : State) (first f : Sent) (h : Reached room state (
   cr_height = second_sound.cr_half.down ∙ ap half same_height ∙ sym h.sound.cr_half.down
 
   -- what the store keeps
-  kept_is : kept_field state.weaver state.store ≡ kept_field (weaver_by (waits first)) (packed_by (waits first) ++ h.rest)
-  kept_is = λ i. kept_field (h.weaver i) (h.begins i)
+  kept_is : kept_field (kept_of state.weaver) state.store ≡ kept_field (kept_of (weaver_by (waits first))) (packed_by (waits first) ++ h.rest)
+  kept_is = λ i. kept_field (kept_of (h.weaver i)) (h.begins i)
 
   -- an output is woven from what the store keeps, and that weaves as the first field itself
   picture : Picture state first f
@@ -113,18 +113,18 @@ module _ (room : ℕ) (state : State) (first f : Sent) (h : Reached room state (
       let w = state.weaver in
       let g = f.field in
       record {
-        times = λ i. cond (fit i) ((h.weaver i).time ∷ []) [];
+        times = λ i. cond (fit i) ((kept_of (h.weaver i)).time ∷ []) [];
         luma = λ out.
             woven n w g.shape f.parity (picture_luma w state.store g) out z fit
-            ∙ (λ i. over (woven_by (h.weaver i).parity (kept_is i).luma (kept_is i).shape.luma g.luma g.shape.luma) out)
+            ∙ (λ i. over (woven_by (kept_of (h.weaver i)).parity (kept_is i).luma (kept_is i).shape.luma g.luma g.shape.luma) out)
             ∙ ap (λ (plane : List ℕ). over plane out) (luma_woven first.field h.sound h.rest first.parity g.luma g.shape.luma same_height);
         cb = λ out.
             woven n w g.shape f.parity (picture_cb w state.store g) out z fit
-            ∙ (λ i. over (woven_by (h.weaver i).parity (kept_is i).cb (kept_is i).shape.cb g.cb g.shape.cb) out)
+            ∙ (λ i. over (woven_by (kept_of (h.weaver i)).parity (kept_is i).cb (kept_is i).shape.cb g.cb g.shape.cb) out)
             ∙ ap (λ (plane : List ℕ). over plane out) (cb_woven first.field h.sound h.rest first.parity g.cb g.shape.cb cb_height);
         cr = λ out.
             woven n w g.shape f.parity (picture_cr w state.store g) out z fit
-            ∙ (λ i. over (woven_by (h.weaver i).parity (kept_is i).cr (kept_is i).shape.cr g.cr g.shape.cr) out)
+            ∙ (λ i. over (woven_by (kept_of (h.weaver i)).parity (kept_is i).cr (kept_is i).shape.cr g.cr g.shape.cr) out)
             ∙ ap (λ (plane : List ℕ). over plane out) (cr_woven first.field h.sound h.rest first.parity g.cr g.shape.cr cr_height);
       }
 

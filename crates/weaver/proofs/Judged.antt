@@ -1,10 +1,11 @@
 -- What a field that gets 0 has shown, and that it can then be woven with a packed field of its size.
 use Prim.Native.Nat.{ℕ, ◌+◌, ◌-◌, ◌≤◌}
-use mathlib.Core.Path.{◌≡◌, refl, sym, subst}
+use mathlib.Core.Path.{◌≡◌, refl, sym, ap, subst, ◌∙◌}
 use mathlib.Core.Bool.{Bool, true, false, cond, ◌&&◌}
 use mathlib.Core.List.{List, [], ◌∷◌}
 use native.Mathlib.Omega.{arith}
 use lib.Dec.{leb, eqb}
+use Rattle.std.proofs.Common.{Option, None, Some, is_some}
 use lib.ListN.{length, take, drop}
 use borrow.Author.Tests.{leb-true, le-leb, eqb-true, eq-eqb}
 use Rattle.laws.proofs.Bools.{halves}
@@ -19,8 +20,9 @@ use Rattle.weave.specs.Weave.{Given, given_of, good_lines, good_field, chroma_fi
 use Rattle.weave.proofs.Fields.{bounded}
 use Rattle.weave.proofs.Judged.{each_of_three, Half, half_of}
 use Rattle.weaver.specs.declared.Size.{Size}
+use Rattle.weaver.specs.declared.Waiting.{Waiting}
 use Rattle.weaver.specs.declared.Weaver.{Weaver}
-use Rattle.weaver.specs.Weaver.{packed_lines, packed_shape, luma_bytes_of, chroma_bytes, field_bytes, kept_field, kept_bytes, opposite, fits}
+use Rattle.weaver.specs.Weaver.{packed_lines, packed_shape, luma_bytes_of, chroma_bytes, field_bytes, held, field_of, kept_of, kept_field, kept_bytes, opposite, fits}
 use Rattle.weaver.specs.Inner.{tests_of, PackableField, Weavable}
 use Rattle.weaver.proofs.Packed.{packed_good, packed_whole, Sound}
 
@@ -158,36 +160,36 @@ module _ (g : Given) (s : Sound g) where
 
 -- a field that fits has the kept one's width, height and depth
 pub record Fitting (w : Weaver) (shape : Field) : Type 0 where
-  pub holds : w.held ≡ true
-  pub widths : w.width ≡ shape.luma.width
-  pub heights : w.height ≡ shape.luma.height
-  pub depths : w.depth ≡ shape.luma.depth
+  pub holds : held w ≡ true
+  pub widths : (kept_of w).width ≡ shape.luma.width
+  pub heights : (kept_of w).height ≡ shape.luma.height
+  pub depths : (kept_of w).depth ≡ shape.luma.depth
 
 pub fitting : (w : Weaver) (shape : Field) (parity : Parity) → fits w shape parity ≡ true → Fitting w shape
 fitting w shape parity h =
-    let o = opposite w.parity parity in
-    let a = eqb w.width shape.luma.width in
-    let b = eqb w.height shape.luma.height in
-    let d = eqb w.depth shape.luma.depth in
-    let outer = halves w.held (o && a && b && d) h in
+    let o = opposite (kept_of w).parity parity in
+    let a = eqb (kept_of w).width shape.luma.width in
+    let b = eqb (kept_of w).height shape.luma.height in
+    let d = eqb (kept_of w).depth shape.luma.depth in
+    let outer = halves (held w) (o && a && b && d) h in
     let last = halves (o && a && b) d outer.1 in
     let next = halves (o && a) b last.0 in
     let first = halves o a next.0 in
     record {
       holds = outer.0;
-      widths = eqb-true w.width shape.luma.width first.1;
-      heights = eqb-true w.height shape.luma.height next.1;
-      depths = eqb-true w.depth shape.luma.depth last.1;
+      widths = eqb-true (kept_of w).width shape.luma.width first.1;
+      heights = eqb-true (kept_of w).height shape.luma.height next.1;
+      depths = eqb-true (kept_of w).depth shape.luma.depth last.1;
     }
 
 -- so it can be woven with the field that the store keeps
 module _
     (w : Weaver) (g : Given) (parity : Parity) (store : List ℕ) (luma_room cb_room cr_room : ℕ)
     (fit : fits w g.shape parity ≡ true) (p : Passed w g true (length store) luma_room cb_room cr_room) where
-  pub store_holds : field_bytes w.width w.height w.depth ≤ length store
+  pub store_holds : field_bytes (kept_of w).width (kept_of w).height (kept_of w).depth ≤ length store
   store_holds = rw (fitting w g.shape parity fit).holds at p.held
 
-  pub weavable : Weavable (kept_field w store) g luma_room cb_room cr_room
+  pub weavable : Weavable (kept_field (kept_of w) store) g luma_room cb_room cr_room
   weavable =
       let f = fitting w g.shape parity fit in
       let l = g.shape.luma in
@@ -203,9 +205,33 @@ module _
       (field_whole g s luma cb cr (part_length store 0 a (omega (arith, enough))) (part_length store a b (omega (arith, enough)))
       (part_length store (a + b) b (omega (arith, enough)))))
 
+-- the same of the mate that was found, and of the test by which it was judged
+module _
+    (w : Weaver) (g : Given) (parity : Parity) (store : List ℕ) (luma_room cb_room cr_room : ℕ) {mate : Option Waiting}
+    (is : mate ≡ cond (fits w g.shape parity) w.waiting None) (has : is_some mate ≡ fits w g.shape parity) where
+  pub mate_passed : {kept : Waiting} {picture : Bool} → mate ≡ Some kept → picture ≡ is_some mate
+      → lowest (tests w g picture (length store) luma_room cb_room cr_room) ≡ 0
+      → Weavable (kept_field kept store) g luma_room cb_room cr_room × (field_bytes kept.width kept.height kept.depth ≤ length store)
+  mate_passed {kept} {picture} found told done =
+      let fit : fits w g.shape parity ≡ true = sym has ∙ ap is_some found in
+      let same : kept_of w ≡ kept = ap field_of (sym (ap (λ (b : Bool). cond b w.waiting None) fit) ∙ sym is ∙ found) in
+      let p = passed w g true (length store) luma_room cb_room cr_room
+      (ap (λ (b : Bool). lowest (tests w g b (length store) luma_room cb_room cr_room)) (sym (told ∙ ap is_some found)) ∙ done) in
+      subst (λ (k : Waiting). Weavable (kept_field k store) g luma_room cb_room cr_room × (field_bytes k.width k.height k.depth ≤ length store)) same
+      (weavable w g parity store luma_room cb_room cr_room fit p, store_holds w g parity store luma_room cb_room cr_room fit p)
+
+-- and of a field without one
+pub unmated_passed :
+    (w : Weaver) (g : Given) (store luma_room cb_room cr_room : ℕ) {mate : Option Waiting} {picture : Bool} → mate ≡ None → picture ≡ is_some mate
+    → lowest (tests w g picture store luma_room cb_room cr_room) ≡ 0 → PackableField store g
+unmated_passed w g store luma_room cb_room cr_room found told done =
+    packable w g store luma_room cb_room cr_room
+    (passed w g false store luma_room cb_room cr_room
+    (ap (λ (b : Bool). lowest (tests w g b store luma_room cb_room cr_room)) (sym (told ∙ ap is_some found)) ∙ done))
+
 -- ---- the kept field's planes as parts of the store
 pub same_kept :
-    (w : Weaver) (store : List ℕ) (first : Field) (a b : ℕ)
+    (w : Waiting) (store : List ℕ) (first : Field) (a b : ℕ)
     → first ≡ packed_shape w.width w.height w.depth → a ≡ luma_bytes_of w.width w.height w.depth → b ≡ chroma_bytes w.width w.height w.depth
     → given_of first (take (a - 0) store) (take (a + b - a) (drop a store)) (take (a + b + b - (a + b)) (drop (a + b) store)) ≡ kept_field w store
 same_kept w store first a b e f g =

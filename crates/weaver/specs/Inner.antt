@@ -7,6 +7,7 @@ use Rattle.plane.specs.declared.Grid.{Grid}
 use Rattle.weave.specs.declared.Field.{Field}
 use Rattle.weave.specs.Weave.{Given, given_of, good_lines, good_field, chroma_fits, whole_field, whole, room_for, weave_no}
 use Rattle.weaver.specs.declared.Size.{Size}
+use Rattle.weaver.specs.declared.Waiting.{Waiting}
 use Rattle.weaver.specs.declared.Weaver.{Weaver}
 use Rattle.weaver.specs.Weaver.{luma_bytes_of, field_bytes, kept_bytes}
 
@@ -17,7 +18,7 @@ size_of l = record { width = l.width; height = l.height; depth = l.depth }
 abbrev pub half_size : Size → Size
 half_size s = record { width = half s.width; height = half s.height; depth = s.depth }
 
-abbrev pub kept_size : Weaver → Size
+abbrev pub kept_size : Waiting → Size
 kept_size w = record { width = w.width; height = w.height; depth = w.depth }
 
 -- the tests of a push, by whether it gives a picture and by the lengths of the planes

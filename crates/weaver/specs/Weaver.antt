@@ -1,6 +1,6 @@
 -- The field that waits for its mate (docs/RULES.md, "Fields and readback", "Forms that must change"; the source is `Weaver` in weave.rs): what each
 -- call gives, on every value that the struct can hold.
-use Rattle.std.specs.Prelude.{ℕ, ◌+◌, ◌*◌, Bool, true, false, cond, not, ◌&&◌, ℤ, Option, None, Result, Ok, Err, List, [], ◌∷◌, ◌++◌, leb, eqb, length, take, drop}
+use Rattle.std.specs.Prelude.{ℕ, ◌+◌, ◌*◌, Bool, cond, not, ◌&&◌, ℤ, Option, None, Some, is_some, Result, Ok, Err, List, [], ◌∷◌, ◌++◌, leb, eqb, length, take, drop}
 use Rattle.laws.specs.Lent.{Output}
 use Rattle.laws.specs.Refusal.{lowest, written}
 use Rattle.laws.specs.Rows.{laid, over}
@@ -12,6 +12,7 @@ use Rattle.plane.specs.Plane.{sample_bytes, half}
 use Rattle.plane.specs.declared.Grid.{Grid}
 use Rattle.weave.specs.declared.Field.{Field}
 use Rattle.weave.specs.Weave.{Given, given_of, line_in, good_field, chroma_fits, whole, room_for, woven_plane}
+use Rattle.weaver.specs.declared.Waiting.{Waiting}
 use Rattle.weaver.specs.declared.Weaver.{Weaver}
 use Rattle.weaver.specs.declared.Paired.{Paired}
 use Rattle.weaver.specs.declared.Paired.TheVariants as paired
@@ -50,14 +51,25 @@ packed_field g =
 -- ---- the weaver
 
 abbrev pub empty_weaver : Weaver
-empty_weaver = record { held = false; width = 0; height = 0; depth = 0; parity = Top; time = None }
+empty_weaver = record { waiting = None }
+
+-- Whether a field waits, and that field: where none does, one of no size, with nothing in it that an answer depends on.
+abbrev pub field_of : Option Waiting → Waiting
+field_of None = record { width = 0; height = 0; depth = 0; parity = Top; time = None }
+field_of (Some field) = field
+
+abbrev pub held : Weaver → Bool
+held w = is_some w.waiting
+
+abbrev pub kept_of : Weaver → Waiting
+kept_of w = field_of w.waiting
 
 abbrev pub waiting_for : Field → Parity → Option ℤ → Weaver
 waiting_for shape parity at =
-    record { held = true; width = shape.luma.width; height = shape.luma.height; depth = shape.luma.depth; parity = parity; time = at }
+    record { waiting = Some (record { width = shape.luma.width; height = shape.luma.height; depth = shape.luma.depth; parity = parity; time = at }) }
 
 -- the field that the store keeps
-abbrev pub kept_field : Weaver → List ℕ → Given
+abbrev pub kept_field : Waiting → List ℕ → Given
 kept_field w store =
     given_of (packed_shape w.width w.height w.depth) (take (luma_bytes_of w.width w.height w.depth) store)
     (take (chroma_bytes w.width w.height w.depth) (drop (luma_bytes_of w.width w.height w.depth) store))
@@ -65,16 +77,17 @@ kept_field w store =
     (drop (luma_bytes_of w.width w.height w.depth + chroma_bytes w.width w.height w.depth) store))
 
 abbrev pub kept_bytes : Weaver → ℕ
-kept_bytes w = cond w.held (field_bytes w.width w.height w.depth) 0
+kept_bytes w = cond (held w) (field_bytes (kept_of w).width (kept_of w).height (kept_of w).depth) 0
 
 abbrev pub opposite : Parity → Parity → Bool
 opposite a b = not (eqb (first_row_of a) (first_row_of b))
 
 -- A field of equal parity replaces the one that waits, as does an opposite one of another width, height or depth; a fitting one gives the picture.
+abbrev pub mates : Waiting → Field → Parity → Bool
+mates w shape parity = opposite w.parity parity && eqb w.width shape.luma.width && eqb w.height shape.luma.height && eqb w.depth shape.luma.depth
+
 abbrev pub fits : Weaver → Field → Parity → Bool
-fits w shape parity =
-    w.held
-    && (opposite w.parity parity && eqb w.width shape.luma.width && eqb w.height shape.luma.height && eqb w.depth shape.luma.depth)
+fits w shape parity = held w && mates (kept_of w) shape parity
 
 -- ---- push
 
@@ -111,7 +124,7 @@ paired_values (Err refused) = []
 
 -- the time that comes with the picture, if there is a picture
 abbrev pub picture_times : Weaver → Field → Parity → List (Option ℤ)
-picture_times w shape parity = cond (fits w shape parity) (w.time ∷ []) []
+picture_times w shape parity = cond (fits w shape parity) ((kept_of w).time ∷ []) []
 
 abbrev pub push_weaver : ℕ → Weaver → Field → Parity → Option ℤ → Weaver
 push_weaver number w shape parity at = written number (cond (fits w shape parity) empty_weaver (waiting_for shape parity at)) w
@@ -126,13 +139,13 @@ woven_by Bottom first f second s = woven_plane second s first f
 
 -- the picture: each plane of the field that waited woven with the new field's
 abbrev pub picture_luma : Weaver → List ℕ → Given → List ℕ
-picture_luma w store g = let kept = kept_field w store in woven_by w.parity kept.luma kept.shape.luma g.luma g.shape.luma
+picture_luma w store g = let kept = kept_field (kept_of w) store in woven_by (kept_of w).parity kept.luma kept.shape.luma g.luma g.shape.luma
 
 abbrev pub picture_cb : Weaver → List ℕ → Given → List ℕ
-picture_cb w store g = let kept = kept_field w store in woven_by w.parity kept.cb kept.shape.cb g.cb g.shape.cb
+picture_cb w store g = let kept = kept_field (kept_of w) store in woven_by (kept_of w).parity kept.cb kept.shape.cb g.cb g.shape.cb
 
 abbrev pub picture_cr : Weaver → List ℕ → Given → List ℕ
-picture_cr w store g = let kept = kept_field w store in woven_by w.parity kept.cr kept.shape.cr g.cr g.shape.cr
+picture_cr w store g = let kept = kept_field (kept_of w) store in woven_by (kept_of w).parity kept.cr kept.shape.cr g.cr g.shape.cr
 
 -- what an output holds, where its plane of the picture is this
 abbrev pub push_out : ℕ → Weaver → Field → Parity → List ℕ → List ℕ → List ℕ

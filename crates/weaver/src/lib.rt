@@ -7,13 +7,13 @@
 // Fields in the order they come, paired into frames.
 #![tactic(auto)]
 
-ghost use Rattle.std.specs.Prelude.{◌≡◌, cond, ◌++◌, ◌+◌, ◌*◌, ◌≤◌, leb, length, take, drop};
+ghost use Rattle.std.specs.Prelude.{◌≡◌, None, is_some, cond, ◌++◌, ◌+◌, ◌*◌, ◌≤◌, leb, length, take, drop};
 ghost use Rattle.laws.specs.Refusal.{lowest, when_done};
 ghost use Rattle.laws.specs.Rows.{over};
 ghost use Rattle.refusal.specs.Refusal.{no_of};
 ghost use Rattle.plane.specs.Plane.{sample_bytes};
 ghost use Rattle.weave.specs.Weave.{lent_field, whole_field, room_for, woven_plane};
-ghost use Rattle.weaver.specs.Weaver.{packed_lines, packed_shape, packed_plane, packed_field, luma_bytes_of, chroma_bytes, field_bytes, empty_weaver, kept_field, kept_bytes, fits, woven_by, push_no_of, picture_times, picture_luma, picture_cb, picture_cr, push_weaver, push_store, push_out, paired_values};
+ghost use Rattle.weaver.specs.Weaver.{packed_lines, packed_shape, packed_plane, packed_field, luma_bytes_of, chroma_bytes, field_bytes, empty_weaver, kept_field, kept_bytes, mates, fits, woven_by, push_no_of, picture_times, picture_luma, picture_cb, picture_cr, push_weaver, push_store, push_out, paired_values};
 ghost use Rattle.weaver.specs.Inner.{size_of, half_size, kept_size, tests_of, found_field, Weaves, Packable, PackableField, WeavableInto};
 
 use field::Parity;
@@ -21,16 +21,19 @@ use plane::Grid;
 use refusal::Refusal;
 use weave::Field;
 
-// The shape of the field that the store keeps, its parity and time, if it has one. Where none is held,
-// the rest says nothing.
+// The field that the store keeps: its shape, its parity and its time, if it has one.
 #[derive(Clone, Copy, Debug, PartialEq, Eq)]
-pub struct Weaver {
-    pub held: bool,
+pub struct Waiting {
     pub width: u16,
     pub height: u16,
     pub depth: u8,
     pub parity: Parity,
     pub time: Option<i64>,
+}
+
+#[derive(Clone, Copy, Debug, PartialEq, Eq)]
+pub struct Weaver {
+    pub waiting: Option<Waiting>,
 }
 
 #[derive(Clone, Copy, Debug, PartialEq, Eq)]
@@ -148,8 +151,7 @@ impl<'a> Lent<'a> {
 
 // ---- tests
 
-impl Weaver {
-    // Of the field that waits.
+impl Waiting {
     fn size(self) -> Size
         ensures { result ≡ kept_size self }
     {
@@ -160,24 +162,31 @@ impl Weaver {
         }
     }
 
-    // Whether a field gives a picture with the one that waits.
+    // Whether a field gives a picture with this one.
     fn fits(self, shape: Field, parity: Parity) -> bool
-        ensures { result ≡ fits self shape parity }
+        ensures { result ≡ mates self shape parity }
     {
-        self.held
-            & ((self.parity != parity)
-                & (self.width == shape.luma.width)
-                & (self.height == shape.luma.height)
-                & (self.depth == shape.luma.depth))
+        (self.parity != parity)
+            & (self.width == shape.luma.width)
+            & (self.height == shape.luma.height)
+            & (self.depth == shape.luma.depth)
+    }
+}
+
+impl Weaver {
+    // The field that waits, if another gives a picture with it.
+    fn mate(self, shape: Field, parity: Parity) -> Option<Waiting>
+        ensures { (result ≡ cond (fits self shape parity) self.waiting None) × (is_some result ≡ fits self shape parity) }
+    {
+        self.waiting.filter(|kept| kept.fits(shape, parity))
     }
 
     fn kept_bytes(self) -> usize
         ensures { result ≡ kept_bytes self }
     {
-        if self.held {
-            self.size().field_bytes()
-        } else {
-            0
+        match self.waiting {
+            None => 0,
+            Some(kept) => kept.size().field_bytes(),
         }
     }
 }
@@ -301,7 +310,7 @@ fn weave_pair(
 
 // The same of the field that the store keeps.
 fn weave_kept(
-    kept: Weaver,
+    kept: Waiting,
     store: &[u8],
     field: Lent<'_>,
     out_luma: &mut [u8],
@@ -310,9 +319,9 @@ fn weave_kept(
 )
     requires weavable_into { WeavableInto (kept_field kept store.now) (found_field field.shape field.luma field.cb field.cr) out_luma out_cb out_cr }
     requires depth_in_bounds { field_bytes kept.width kept.height kept.depth ≤ length store.now }
-    ensures out_luma_after { out_luma.new ≡ over (picture_luma kept store.now (found_field field.entry.shape field.entry.luma field.entry.cb field.entry.cr)) out_luma.old }
-    ensures out_cb_after { out_cb.new ≡ over (picture_cb kept store.now (found_field field.entry.shape field.entry.luma field.entry.cb field.entry.cr)) out_cb.old }
-    ensures out_cr_after { out_cr.new ≡ over (picture_cr kept store.now (found_field field.entry.shape field.entry.luma field.entry.cb field.entry.cr)) out_cr.old }
+    ensures out_luma_after { out_luma.new ≡ over (woven_by kept.parity (kept_field kept store.now).luma (kept_field kept store.now).shape.luma field.entry.luma.now field.entry.shape.luma) out_luma.old }
+    ensures out_cb_after { out_cb.new ≡ over (woven_by kept.parity (kept_field kept store.now).cb (kept_field kept store.now).shape.cb field.entry.cb.now field.entry.shape.cb) out_cb.old }
+    ensures out_cr_after { out_cr.new ≡ over (woven_by kept.parity (kept_field kept store.now).cr (kept_field kept store.now).shape.cr field.entry.cr.now field.entry.shape.cr) out_cr.old }
 {
     let size = kept.size();
     let a = size.plane_bytes();
@@ -330,14 +339,7 @@ impl Weaver {
     pub fn new() -> Weaver
         ensures { result ≡ empty_weaver }
     {
-        Weaver {
-            held: false,
-            width: 0,
-            height: 0,
-            depth: 0,
-            parity: Parity::Top,
-            time: None,
-        }
+        Weaver { waiting: None }
     }
 
     // Throws away the field that waits.
@@ -375,10 +377,10 @@ impl Weaver {
             cb,
             cr,
         };
-        let picture = self.fits(shape, parity);
+        let mate = self.mate(shape, parity);
         if let Err(refusal) = takeable(
             self,
-            picture,
+            mate.is_some(),
             field,
             store.len(),
             out_luma.len(),
@@ -390,26 +392,32 @@ impl Weaver {
                 answer: Err(refusal),
             };
         }
-        if picture {
-            weave_kept(self, store, field, out_luma, out_cb, out_cr);
-            let emptied = Weaver::new();
-            return Pushed {
-                weaver: emptied,
-                answer: Ok(Paired::Picture(self.time)),
-            };
-        }
-        pack_field(store, field);
-        let waiting = Weaver {
-            held: true,
-            width: shape.luma.width,
-            height: shape.luma.height,
-            depth: shape.luma.depth,
-            parity,
-            time,
-        };
-        Pushed {
-            weaver: waiting,
-            answer: Ok(Paired::Waits),
+        match mate {
+            Some(kept) => {
+                weave_kept(kept, store, field, out_luma, out_cb, out_cr);
+                let emptied = Weaver::new();
+                Pushed {
+                    weaver: emptied,
+                    answer: Ok(Paired::Picture(kept.time)),
+                }
+            }
+            None => {
+                pack_field(store, field);
+                let waiting = Waiting {
+                    width: shape.luma.width,
+                    height: shape.luma.height,
+                    depth: shape.luma.depth,
+                    parity,
+                    time,
+                };
+                let filled = Weaver {
+                    waiting: Some(waiting),
+                };
+                Pushed {
+                    weaver: filled,
+                    answer: Ok(Paired::Waits),
+                }
+            }
         }
     }
 }
