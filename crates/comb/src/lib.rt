@@ -147,7 +147,7 @@ fn sum_of(columns: &[u16; 256]) -> u32
     left + right
 }
 
-// The row of n bytes that starts at a place of the plane. No plainer as a range: each end is a sum of three.
+// The row of n bytes that starts at a place of the plane. A range would state the place twice.
 fn row_at(plane: &[u8], start: usize, n: usize) -> &[u8]
     requires { start + n ≤ length plane.now }
     ensures { result.now ≡ take n (drop start plane.now) }

@@ -1,7 +1,7 @@
 // Copyright 2026 Till0196
 // SPDX-License-Identifier: Apache-2.0
 // Carried over from core/src/output/video/filter.rs (`sample`, `edge`, `Rows`), and changed: a plane is a
-// lent slice beside its shape, closures are functions, and what is out of bounds is refused.
+// lent slice beside its shape, closures are methods, and what is out of bounds is refused.
 //
 // The rows a field lacks, sample by sample.
 #![tactic(auto)]

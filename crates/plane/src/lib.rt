@@ -1,10 +1,10 @@
 // Copyright 2026 Till0196
 // SPDX-License-Identifier: Apache-2.0
 // Carried over from core/src/output/video/filter.rs (`Samples`, `Planes`), and changed: a plane is a
-// lent slice beside its shape, the layout is an enum, and what is out of bounds is refused by number.
+// lent slice beside its shape, the layout is an enum, and what is out of bounds is refused.
 //
 // A plane of samples: its shape and bounds, and what stands at a place. Narrow types make every place
-// of every shape a u64, and a read past the end gives 0, so the public functions below the two reads
+// of every shape a usize, and a read past the end gives 0, so the public functions below the two reads
 // take every input too.
 #![tactic(auto)]
 

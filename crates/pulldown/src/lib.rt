@@ -369,7 +369,7 @@ fn in_ring(course: Course) -> Course
     }
 }
 
-// Takes a frame that can be compared. Compiled into both of its callers: the loop of `cadences_of` is one.
+// Takes a frame that can be compared. Compiled into both callers: `take_code` stands in the loop of `cadences_of`.
 #[inline(always)]
 fn take_symbol(ring: &mut [u8; 15], course: Course, symbol: Symbol) -> Course
     requires { (course.next < 15) × (course.taken < 4000000000) }
