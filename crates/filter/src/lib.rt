@@ -183,8 +183,8 @@ struct Best {
 
 impl Lent<'_> {
     // The value at held coordinates.
-    fn at(self, x: u32, y: u32) -> f32
-        ensures { result ≡ value_in self.entry (unbiased x) (unbiased y) }
+    fn at(&self, x: u32, y: u32) -> f32
+        ensures { result ≡ value_in self.now (unbiased x) (unbiased y) }
     {
         plane::value_at(self.bytes, self.shape, x, y)
     }
@@ -200,9 +200,9 @@ impl Lent<'_> {
     }
 
     #[tactic(auto, unfolding(crate::specs::Filter::across_of), using(crate::proofs::Offsets::across_above, crate::proofs::Offsets::across_below, crate::proofs::Offsets::unbiased_less, crate::proofs::Offsets::unbiased_more))]
-    fn across(self, x: u32, y: u32, k: u32, j: u32) -> f32
+    fn across(&self, x: u32, y: u32, k: u32, j: u32) -> f32
         requires { Room x × Room y × (k ≤ 3) × (j ≤ 4) }
-        ensures { result ≡ across_of (value_in self.entry) (unbiased x) (unbiased y) (step k) (step j) }
+        ensures { result ≡ across_of (value_in self.now) (unbiased x) (unbiased y) (step k) (step j) }
     {
         let above = self.at(x + k + j - 4, y - 1);
         let below = self.at(x + k - j, y + 1);
@@ -210,31 +210,31 @@ impl Lent<'_> {
     }
 
     #[tactic(auto, unfolding(crate::specs::Filter::score_of))]
-    fn score(self, x: u32, y: u32, j: u32) -> f32
+    fn score(&self, x: u32, y: u32, j: u32) -> f32
         requires { Room x × Room y × (j ≤ 4) }
-        ensures { result ≡ score_of (value_in self.entry) (unbiased x) (unbiased y) (step j) }
+        ensures { result ≡ score_of (value_in self.now) (unbiased x) (unbiased y) (step j) }
     {
         self.across(x, y, 1, j) + self.across(x, y, 2, j) + self.across(x, y, 3, j)
     }
 
-    fn slanted(self, x: u32, y: u32, j: u32) -> f32
+    fn slanted(&self, x: u32, y: u32, j: u32) -> f32
         requires { Room x × Room y × (j ≤ 4) }
-        ensures { result ≡ slanted_of (value_in self.entry) (unbiased x) (unbiased y) (step j) }
+        ensures { result ≡ slanted_of (value_in self.now) (unbiased x) (unbiased y) (step j) }
     {
         self.score(x, y, j) + SLANT_BIAS * (j.abs_diff(2) as f32)
     }
 
-    fn tried(self, best: Best, x: u32, y: u32, j: u32) -> Best
+    fn tried(&self, best: Best, x: u32, y: u32, j: u32) -> Best
         requires { Room x × Room y × (j ≤ 4) }
-        ensures { seen result ≡ better_of (seen best) (step j) (slanted_of (value_in self.entry) (unbiased x) (unbiased y) (step j)) }
+        ensures { seen result ≡ better_of (seen best) (step j) (slanted_of (value_in self.now) (unbiased x) (unbiased y) (step j)) }
     {
         better(best, j, self.slanted(x, y, j))
     }
 
     // Tries 0, -1, 1, -2, 2.
-    fn edge_at(self, x: u32, y: u32) -> u32
+    fn edge_at(&self, x: u32, y: u32) -> u32
         requires { Room x × Room y }
-        ensures { (step result ≡ edge_of (value_in self.entry) (unbiased x) (unbiased y)) × (result ≤ 4) }
+        ensures { (step result ≡ edge_of (value_in self.now) (unbiased x) (unbiased y)) × (result ≤ 4) }
     {
         let upright = Best {
             slant: 2,

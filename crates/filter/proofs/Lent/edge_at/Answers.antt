@@ -11,7 +11,7 @@ use Rattle.filter.proofs.Lent.edge_at.Goals as goal
 pub returns : goal.returns
 returns c =
     let a = c.args in
-    let found : step c.tried-far_right.result.slant ≡ edge_of (value_in a.self) (unbiased a.x) (unbiased a.y) =
+    let found : step c.tried-far_right.result.slant ≡ edge_of (value_in a.self.now) (unbiased a.x) (unbiased a.y) =
     edge_found _ _ _ c.score.ensures c.tried-left.ensures c.tried-right.ensures
     c.tried-far_left.ensures c.tried-far_right.ensures
     in
