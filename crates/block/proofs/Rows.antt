@@ -10,7 +10,7 @@ use lib.Dec.{leb}
 use lib.Pow.{pow_pos, pow_mono, pow-add, shr_lt}
 use borrow.Author.Tests.{le-leb, lt-leb, leb-true, leb-false}
 use Rattle.laws.specs.Rows.{listed}
-use Rattle.laws.proofs.Lists.{length_listed, same_listed, listed_at, listed_again, part_length, part_at}
+use Rattle.laws.proofs.Lists.{length_listed, same_listed, listed_at, part_length, part_at}
 use Rattle.plane.specs.declared.Shape.{Shape}
 use Rattle.plane.specs.declared.Grid.{Grid}
 use Rattle.plane.specs.Plane.{row_bytes, plane_bytes, grid_shape, full_code, code_of}
@@ -55,9 +55,11 @@ module _ (g : Grid) (h : g.depth ≤ 8) where
         ∙ sym (kept_byte bytes x y fits);
   }
 
--- a kept row, as a list
-pub row_kept : (row bytes : List ℕ) (s : Shape) (y : ℕ) → KeptRow row bytes s y → row ≡ listed s.width (λ x. kept_of bytes s x y)
-row_kept row bytes s y kept = sym (listed_again row s.width 0 (sym kept.wide)) ∙ same_listed s.width _ _ kept.sample
+-- a kept row, copied
+pub row_copied :
+    (row bytes : List ℕ) (s : Shape) (y : ℕ) {n : ℕ} →
+    KeptRow row bytes s y → n ≡ s.width → listed n (λ x. get_or row x 0) ≡ listed s.width (λ x. kept_of bytes s x y)
+row_copied row bytes s y kept e = ap (λ (n : ℕ). listed n (λ x. get_or row x 0)) e ∙ same_listed s.width _ _ kept.sample
 
 -- a row as `keep_row` leaves it
 pub row_listed :

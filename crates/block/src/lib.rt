@@ -60,17 +60,27 @@ fn modulo_256(code: u16) -> u16
     code % 256
 }
 
-// A row of two bytes a sample. The loop runs over a part, so that the compiler drops every index test and
-// vectorises it. A code is cut at 255 behind its shift, which comes to the same as at the largest code
-// before it.
-fn keep_pairs<const RIGHT: u16>(to: &mut [u8], row: &[u8])
-    requires { (length row.now ≡ length to.old * 2) × (RIGHT ≤ 8) }
-    ensures { to.new ≡ listed (length to.old) (pair_kept row.now RIGHT) }
+// A row of one byte a sample, and one of two. The loops run over parts, so that the compiler drops every index
+// test and vectorises them. With `copy_from_slice` the archive would need C's memmove from its host.
+fn keep_bytes(to: &mut [u8], row: &[u8])
+    requires { length row.now ≡ length to.old }
+    ensures { to.new ≡ listed (length to.old) (λ x. get_or row.now x 0) }
+{
+    for x in 0..to.len() {
+        to[x] = row[x];
+    }
+}
+
+// A code is cut at 255 behind its shift, which comes to the same as at the largest code before it. The shift is no
+// const parameter: known too early, one by 8 becomes a read of every second byte, which is not vectorised.
+fn keep_pairs(to: &mut [u8], row: &[u8], right: u16)
+    requires { (length row.now ≡ length to.old * 2) × (right ≤ 8) }
+    ensures { to.new ≡ listed (length to.old) (pair_kept row.now right) }
 {
     for x in 0..to.len() {
         let i = x * 2;
         let word = u16::from(row[i]) + 256 * u16::from(row[i + 1]);
-        to[x] = modulo_256(upper(word, RIGHT).min(255)) as u8;
+        to[x] = modulo_256(upper(word, right).min(255)) as u8;
     }
 }
 
@@ -80,14 +90,14 @@ fn keep_deep(to: &mut [u8], row: &[u8], right: u16)
     ensures { to.new ≡ listed (length to.old) (pair_kept row.now right) }
 {
     match right {
-        1 => keep_pairs::<1>(to, row),
-        2 => keep_pairs::<2>(to, row),
-        3 => keep_pairs::<3>(to, row),
-        4 => keep_pairs::<4>(to, row),
-        5 => keep_pairs::<5>(to, row),
-        6 => keep_pairs::<6>(to, row),
-        7 => keep_pairs::<7>(to, row),
-        _ => keep_pairs::<8>(to, row),
+        1 => keep_pairs(to, row, 1),
+        2 => keep_pairs(to, row, 2),
+        3 => keep_pairs(to, row, 3),
+        4 => keep_pairs(to, row, 4),
+        5 => keep_pairs(to, row, 5),
+        6 => keep_pairs(to, row, 6),
+        7 => keep_pairs(to, row, 7),
+        _ => keep_pairs(to, row, 8),
     }
 }
 
@@ -105,7 +115,7 @@ fn keep_row(to: &mut [u8], plane: &[u8], grid: Grid, y: usize)
     ensures { to.new ≡ listed grid.width (λ x. kept_of plane.now (grid_shape grid) x y) }
 {
     if grid.depth <= 8 {
-        to.copy_from_slice(byte_row(plane, grid, y));
+        keep_bytes(to, byte_row(plane, grid, y));
         return;
     }
     let start = y * (grid.stride as usize);

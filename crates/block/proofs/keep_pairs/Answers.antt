@@ -7,10 +7,10 @@ use Rattle.laws.proofs.Lists.{fill_starts, fills}
 use Rattle.block.proofs.keep_pairs.Goals as goal
 
 pub loop-x-init : goal.loop-x-init
-loop-x-init g c = fill_starts
+loop-x-init c = fill_starts
 
 pub loop-x-preserved : goal.loop-x-preserved
-loop-x-preserved g c =
+loop-x-preserved c =
     let low = c.from.ensures in
     let high = c.from-in-loop-x.ensures in
     fills c.loop-x.invariant (omega arith)
@@ -18,4 +18,4 @@ loop-x-preserved g c =
     ∙ mod-eq_of_lt (omega arith)
     ∙ c.min.ensures
     ∙ ap (λ (n : ℕ). min n 255) c.upper.ensures
-    ∙ (λ i. min ((low i + 256 * high i) / 2 ^ g.row.RIGHT) 255))
+    ∙ (λ i. min ((low i + 256 * high i) / 2 ^ c.args.right) 255))

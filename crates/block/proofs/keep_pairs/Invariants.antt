@@ -4,4 +4,4 @@ use Rattle.block.specs.Rows.{pair_kept}
 use Rattle.block.proofs.keep_pairs.Given as goal
 
 abbrev pub invariant-loop-x : goal.invariant-loop-x
-invariant-loop-x g l = Filled (pair_kept l.row g.row.RIGHT) l.initial.to l.to l.x
+invariant-loop-x l = Filled (pair_kept l.row l.right) l.initial.to l.to l.x

@@ -5,13 +5,14 @@ use lib.ListN.{length}
 use Rattle.plane.proofs.Bounds.{good_within}
 use Rattle.plane.specs.Plane.{grid_shape}
 use Rattle.laws.proofs.Lists.{part_length}
-use Rattle.block.proofs.Rows.{row_within, row_kept, pair_row_size, pairs_kept}
+use Rattle.block.proofs.Rows.{row_within, row_copied, pair_row_size, pairs_kept}
 use Rattle.block.proofs.keep_row.Goals as goal
 
 pub returns-then-grid-le8 : goal.returns-then-grid-le8
 returns-then-grid-le8 c =
     let a = c.args in
-    c.copy_from_slice.ensures.after ∙ row_kept c.byte_row.result.now a.plane.now (grid_shape a.grid) a.y c.byte_row.ensures
+    c.keep_bytes.ensures
+    ∙ row_copied c.byte_row.result.now a.plane.now (grid_shape a.grid) a.y c.byte_row.ensures c.requires.1
 
 pub keep_deep-requires : goal.keep_deep-requires
 keep_deep-requires c =
