@@ -180,7 +180,9 @@ fn write_ring(to: &mut [u8], ring: &[u8; 15], phase: u8)
     to[15] = phase;
 }
 
-// Writes a detector to a state that is long enough, so that the numbers have room.
+// Writes a detector to a state that is long enough, so that the numbers have room. Compiled into each caller, so that
+// what a caller knows of the detector, as that it is fresh, is written as it stands.
+#[inline(always)]
 fn keep(state: &mut [u8], detector: &Detector)
     requires { 96 ≤ length state.old }
     ensures { state.new ≡ keeping detector.now state.old }
@@ -206,14 +208,21 @@ fn push_counts(
     ensures result_value_2 { values_of result ≡ when_done (measured_no (detector_in state.old)) (measured_cadence (detector_in state.old) first measured) }
     ensures state_after { state.new ≡ written (no_of result) (keeping (measured_detector (detector_in state.old) first measured) state.old) state.old }
 {
-    let mut detector = detector_in(state);
-    let course = detector.lock.course;
-    let last = detector.last;
-    let seen = telecine::seen_measured(last, first, measured);
-    let stepped = telecine::step(&mut detector.lock.ring, course, last, first, seen);
+    let mut ring = ring_in(state);
+    let course = course_in(state);
+    let kept = kept_in(state);
+    let led = last_in(state);
+    let seen = telecine::seen_measured(led, first, measured);
+    let stepped = telecine::step(&mut ring, course, led, first, seen);
     let found = stepped.answer?;
-    detector.lock.course = stepped.course;
-    detector.last = stepped.last;
+    let detector = Detector {
+        lock: Lock {
+            ring,
+            course: stepped.course,
+        },
+        kept,
+        last: stepped.last,
+    };
     keep(state, &detector);
     Ok(found)
 }
