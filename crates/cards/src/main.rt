@@ -17,9 +17,6 @@ use telecine::{Detector, Measured};
 
 // ---- lines
 
-// Whether all could be written.
-type Told = std::io::Result<()>;
-
 const REFUSED: &[u8] = b"a refusal";
 
 // Where to print, what is left of the list, whose next line is the next card's, and how many cards were run and differ.
@@ -65,40 +62,42 @@ impl<'a, P: Print> Bench<'a, P> {
         }
     }
 
-    fn tell(&mut self, name: &str, came: &[u8]) -> Told {
+    // What cannot be written is left out, and the next is tried: nobody is left to be told.
+    fn tell(&mut self, name: &str, came: &[u8]) {
         let line = self.next_line();
         let says = line
             .strip_prefix(name.as_bytes())
             .and_then(|rest| rest.strip_prefix(b": "));
         self.run = self.run.saturating_add(1);
         if says == Some(came) {
-            return println!(self.out; "{name}: ok");
+            let _ = println!(self.out; "{name}: ok");
+            return;
         }
         self.differ = self.differ.saturating_add(1);
-        print!(self.out; "{name}: ")?;
-        self.out.write_all(came)?;
-        print!(self.out; ", expected '")?;
+        let _ = print!(self.out; "{name}: ");
+        let _ = self.out.write_all(came);
+        let _ = print!(self.out; ", expected '");
         // A line of the list need not be text.
-        self.out.write_all(line)?;
-        println!(self.out; "'")
+        let _ = self.out.write_all(line);
+        let _ = println!(self.out; "'");
     }
 
-    fn tell_number(&mut self, name: &str, came: u64) -> Told {
+    fn tell_number(&mut self, name: &str, came: u64) {
         // Room for any number, since there is no heap to print it to.
         let mut text = [0u8; 20];
         let n = io::decimal(came, &mut text);
-        self.tell(name, &text[..n])
+        self.tell(name, &text[..n]);
     }
 
-    fn tell_answer(&mut self, name: &str, came: Result<Cadence, Refusal>) -> Told {
-        self.tell(name, came.map_or(REFUSED, cadence_word))
+    fn tell_answer(&mut self, name: &str, came: Result<Cadence, Refusal>) {
+        self.tell(name, came.map_or(REFUSED, cadence_word));
     }
 
-    fn tell_all(&mut self) -> Told {
+    fn tell_all(&mut self) {
         if !self.list.is_empty() {
-            println!(self.out; "the list goes on after the last card")?;
+            let _ = println!(self.out; "the list goes on after the last card");
         }
-        println!(self.out; "{} cards, {} differ", self.run, self.differ)
+        let _ = println!(self.out; "{} cards, {} differ", self.run, self.differ);
     }
 }
 
@@ -172,22 +171,22 @@ fn after_stills(n: u64) -> Stills
 }
 
 impl<P: Print> Bench<'_, P> {
-    fn ahead_cards(&mut self) -> Told {
+    fn ahead_cards(&mut self) {
         let detector = after_entry_9();
-        self.tell_answer("after entry 9, ahead 0", detector.predict(0))?;
-        self.tell_answer("after entry 9, ahead 4", detector.predict(4))?;
-        self.tell_answer("after entry 9, ahead 6", detector.predict(6))
+        self.tell_answer("after entry 9, ahead 0", detector.predict(0));
+        self.tell_answer("after entry 9, ahead 4", detector.predict(4));
+        self.tell_answer("after entry 9, ahead 6", detector.predict(6));
     }
 
-    fn still_cards(&mut self) -> Told {
+    fn still_cards(&mut self) {
         self.tell_number(
             "stills that keep a lock on a moved frame",
             after_stills(12).kept,
-        )?;
+        );
         let twelfth = after_stills(11)
             .detector
             .push_measured(Parity::Top, busy(0, 0));
-        self.tell_answer("the twelfth still", twelfth.answer)
+        self.tell_answer("the twelfth still", twelfth.answer);
     }
 }
 
@@ -231,11 +230,10 @@ const PATTERN_CARDS: [&str; 5] = [
 
 impl<P: Print> Bench<'_, P> {
     // Of none, 0 is told.
-    fn pattern_cards(&mut self) -> Told {
+    fn pattern_cards(&mut self) {
         for (step, name) in PATTERN_CARDS.iter().enumerate() {
-            self.tell_number(name, locks_from(step as u64).unwrap_or(0))?;
+            self.tell_number(name, locks_from(step as u64).unwrap_or(0));
         }
-        Ok(())
     }
 }
 
@@ -268,9 +266,9 @@ fn busy_word(counts: Counts) -> &'static [u8] {
 }
 
 impl<P: Print> Bench<'_, P> {
-    fn busy_cards(&mut self) -> Told {
-        self.tell("33 of 128 differ", busy_with(33).map_or(REFUSED, busy_word))?;
-        self.tell("32 of 128 differ", busy_with(32).map_or(REFUSED, busy_word))
+    fn busy_cards(&mut self) {
+        self.tell("33 of 128 differ", busy_with(33).map_or(REFUSED, busy_word));
+        self.tell("32 of 128 differ", busy_with(32).map_or(REFUSED, busy_word));
     }
 }
 
@@ -291,24 +289,24 @@ fn quiet_of(blocks: u64) -> u64 {
 }
 
 impl<P: Print> Bench<'_, P> {
-    fn symbol_cards(&mut self) -> Told {
+    fn symbol_cards(&mut self) {
         self.tell(
             "100 blocks, counts 1 and 4",
             symbol_word(pulldown::classify_counts(1, 100, 4)),
-        )?;
+        );
         self.tell(
             "100 blocks, counts 2 and 4",
             symbol_word(pulldown::classify_counts(2, 100, 4)),
-        )?;
+        );
         self.tell(
             "100 blocks, counts 3 and 3",
             symbol_word(pulldown::classify_counts(3, 100, 3)),
-        )
+        );
     }
 
-    fn threshold_cards(&mut self) -> Told {
-        self.tell_number("8160 blocks, moving", moving_of(8160))?;
-        self.tell_number("8160 blocks, quiet", quiet_of(8160))
+    fn threshold_cards(&mut self) {
+        self.tell_number("8160 blocks, moving", moving_of(8160));
+        self.tell_number("8160 blocks, quiet", quiet_of(8160));
     }
 }
 
@@ -334,7 +332,7 @@ fn value_word(value: f32) -> &'static [u8] {
 }
 
 impl<P: Print> Bench<'_, P> {
-    fn comb_card(&mut self) -> Told {
+    fn comb_card(&mut self) {
         let name = "10, 20, 10 in one column, comb";
         match comb::comb(&[10u8, 20, 10], 1, 3, 8, 1) {
             Ok(total) => self.tell_number(name, total),
@@ -342,15 +340,15 @@ impl<P: Print> Bench<'_, P> {
         }
     }
 
-    fn value_card(&mut self) -> Told {
+    fn value_card(&mut self) {
         let value = plane::at(&[255u8, 3], ten_bits(Layout::Planar), 0, 0);
         self.tell(
             "ten bits, bytes FF 03 read",
             value.map_or(REFUSED, value_word),
-        )
+        );
     }
 
-    fn code_card(&mut self) -> Told {
+    fn code_card(&mut self) {
         let name = "ten bits, bytes C0 FF shifted by 6";
         match plane::code(&[192u8, 255], ten_bits(Layout::Luma), 0, 0) {
             Ok(code) => self.tell_number(name, u64::from(code)),
@@ -358,36 +356,35 @@ impl<P: Print> Bench<'_, P> {
         }
     }
 
-    fn quantise_cards(&mut self) -> Told {
-        self.tell_number("quantise 0.5", u64::from(colour::quantise(0.5)))?;
-        self.tell_number("quantise 1.0", u64::from(colour::quantise(1.0)))
+    fn quantise_cards(&mut self) {
+        self.tell_number("quantise 0.5", u64::from(colour::quantise(0.5)));
+        self.tell_number("quantise 1.0", u64::from(colour::quantise(1.0)));
     }
 }
 
-fn run(out: &(impl Print + Drop), list: &[u8]) -> Told {
+fn run(out: &(impl Print + Drop), list: &[u8]) {
     let mut bench = Bench {
         out,
         list,
         run: 0,
         differ: 0,
     };
-    bench.busy_cards()?;
-    bench.symbol_cards()?;
-    bench.pattern_cards()?;
-    bench.comb_card()?;
-    bench.ahead_cards()?;
-    bench.still_cards()?;
-    bench.threshold_cards()?;
-    bench.value_card()?;
-    bench.code_card()?;
-    bench.quantise_cards()?;
-    bench.tell_all()
+    bench.busy_cards();
+    bench.symbol_cards();
+    bench.pattern_cards();
+    bench.comb_card();
+    bench.ahead_cards();
+    bench.still_cards();
+    bench.threshold_cards();
+    bench.value_card();
+    bench.code_card();
+    bench.quantise_cards();
+    bench.tell_all();
 }
 
-// What cannot be written ends the run, and nobody is left to be told.
 fn main(rt: HostRuntime) {
     // Room for the longest list that is read, since there is no heap for it.
     let mut buffer = io::buffer();
     let n = io::read_full(0, &mut buffer);
-    let _ = run(&rt, &buffer[..n]);
+    run(&rt, &buffer[..n]);
 }

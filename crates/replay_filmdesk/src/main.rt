@@ -13,7 +13,7 @@ mod list;
 
 use calls::Call;
 use list::{Fault, List, Record};
-use std::{fmt, io};
+use std::fmt;
 
 // ---- lines
 
@@ -65,31 +65,31 @@ impl fmt::Display for Broken {
     }
 }
 
-// The last lines of a list that was read to its end. Where it had no record, nothing is shown.
-fn tell_end(rt: &impl Print, count: Count) -> io::Result<()> {
-    println!(rt; "{count}")?;
+// The last lines of a list that was read to its end. Where it had no record, nothing is shown. What cannot be written
+// is left out, here and below, and the next is tried: nobody is left to be told.
+fn tell_end(rt: &impl Print, count: Count) {
+    let _ = println!(rt; "{count}");
     if count.compared == 0 {
-        return println!(rt;
+        let _ = println!(rt;
             "not passed: the list is empty; expected a record for each of the {} calls",
             Call::COUNT
         );
     }
-    Ok(())
 }
 
 // And of one that was not.
-fn tell_broken(rt: &impl Print, count: Count, broken: Broken) -> io::Result<()> {
-    println!(rt; "{broken}")?;
-    println!(rt; "{count}")?;
-    println!(rt;
+fn tell_broken(rt: &impl Print, count: Count, broken: Broken) {
+    let _ = println!(rt; "{broken}");
+    let _ = println!(rt; "{count}");
+    let _ = println!(rt;
         "not passed: the list is broken at record {}",
         broken.record
-    )
+    );
 }
 
 // ---- the calls
 
-fn run(rt: &impl Print) -> io::Result<()> {
+fn run(rt: &impl Print) {
     let mut list = List::new();
     let mut state = [165u8; 256];
     let mut store = [165u8; 8192];
@@ -100,7 +100,7 @@ fn run(rt: &impl Print) -> io::Result<()> {
         match list.take() {
             Ok(Some(Record { call, answer })) => {
                 if !call.replayed(answer, &mut state, &mut store) {
-                    println!(rt; "differs: {call}, record {record}")?;
+                    let _ = println!(rt; "differs: {call}, record {record}");
                     differ = differ.saturating_add(1);
                 }
             }
@@ -110,10 +110,8 @@ fn run(rt: &impl Print) -> io::Result<()> {
             }
         }
     }
-    Ok(())
 }
 
-// What cannot be written ends the run, and nobody is left to be told.
 fn main(rt: HostRuntime) {
-    let _ = run(&rt);
+    run(&rt);
 }
