@@ -1,6 +1,8 @@
 -- Made by tools/calls from the exports; not to be changed by hand.
 -- Nothing else would satisfy a contract of `weavedesk`.
 use mathlib.Core.Path.{refl}
+use Rattle.weavedesk.proofs.FormatNumbersFromFormat.from.Kinds as from_kinds
+use Rattle.weavedesk.proofs.FormatNumbersFromFormat.from.Reads as from
 use Rattle.weavedesk.proofs.desk_weave.Kinds as desk_weave_kinds
 use Rattle.weavedesk.proofs.desk_weave.Reads as desk_weave
 use Rattle.weavedesk.proofs.desk_line_number.Kinds as desk_line_number_kinds
@@ -21,6 +23,9 @@ use Rattle.weavedesk.proofs.desk_weaver_push.Kinds as desk_weaver_push_kinds
 use Rattle.weavedesk.proofs.desk_weaver_push.Reads as desk_weaver_push
 use Rattle.unique.specs.Unique.{OneAnswer}
 use Rattle.unique.proofs.Law.{same, ◌and◌, once}
+
+pub from_once : OneAnswer 0 from_kinds.ps from_kinds.r from.Post
+from_once κs a x y u v p q = (same p q, refl)
 
 pub desk_weave_once : OneAnswer 9 desk_weave_kinds.ps desk_weave_kinds.r desk_weave.Post
 desk_weave_once =
